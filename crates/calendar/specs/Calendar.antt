@@ -1,0 +1,70 @@
+-- Document 01, "Calendar and hours", first paragraph: months, their days, weekdays, and the readings of a day and of a month.
+-- A month, a day and a reading of a day are numbers; each definition holds for every number.
+use mathlib.Core.Bool.{Bool, cond, not, _&&_, _||_}
+use mathlib.Core.List.{List, [], _∷_}
+use Prim.Native.Nat.{ℕ, zero, suc, _+_, _-_, _*_, _/_, _%_}
+use lib.Dec.{eqb, ltb, leb}
+use lib.ListN.{getD}
+use Rattle.calendar.specs.declared.Season.{Season}
+use Rattle.calendar.specs.declared.Season.the-variants.{Winter, Summer}
+use Rattle.calendar.specs.declared.DayKind.{DayKind}
+use Rattle.calendar.specs.declared.DayKind.the-variants.{Weekday, Weekend}
+
+-- "A month is numbered 12 × (year − 2000) + (month of the year − 1)": the year of month m.
+abbrev pub yearOf : ℕ → ℕ
+yearOf m = 2000 + m / 12
+
+-- The month of the year of month m: 1 is January, 12 December.
+abbrev pub monthOfYear : ℕ → ℕ
+monthOfYear m = m % 12 + 1
+
+-- "The Gregorian calendar": each fourth year is a leap year, but of the hundredth years only each four-hundredth.
+unfoldable pub isLeap : ℕ → Bool
+isLeap y = eqb (y % 4) 0 && (not (eqb (y % 100) 0) || eqb (y % 400) 0)
+
+-- The days of January to December in a common year.
+abbrev pub commonDays : List ℕ
+commonDays = 31 ∷ 28 ∷ 31 ∷ 30 ∷ 31 ∷ 30 ∷ 31 ∷ 31 ∷ 30 ∷ 31 ∷ 30 ∷ 31 ∷ []
+
+-- 1 in February of a leap year, else 0.
+unfoldable pub leapDay : ℕ → ℕ
+leapDay m = cond (eqb (monthOfYear m) 2 && isLeap (yearOf m)) 1 0
+
+-- "The Gregorian calendar gives its days."
+unfoldable pub daysIn : ℕ → ℕ
+daysIn m = getD commonDays (monthOfYear m - 1) 0 + leapDay m
+
+-- The weekday of the first day of month m, 0 for Monday to 6 for Sunday. "1 January 2000 is a Saturday", and each month
+-- begins on the day after the last one of the month before.
+unfoldable pub firstWeekday : ℕ → ℕ
+firstWeekday zero = 5
+firstWeekday (suc m) = (firstWeekday m + daysIn m) % 7
+
+-- The weekday of day d of month m (1 is the first day).
+unfoldable pub weekdayOf : ℕ → ℕ → ℕ
+weekdayOf m d = (firstWeekday m + (d - 1)) % 7
+
+-- "Monday to Friday".
+unfoldable pub dayKindOf : ℕ → ℕ → DayKind
+dayKindOf m d = cond (ltb (weekdayOf m d) 5) Weekday Weekend
+
+-- "Winter is October to June", "Summer is July to September".
+unfoldable pub seasonOf : ℕ → Season
+seasonOf m = cond (leb 7 (monthOfYear m) && leb (monthOfYear m) 9) Summer Winter
+
+-- "Each day has 96 quarter-hours": the readings of day d of month m in a register.
+unfoldable pub dayLength : ℕ → ℕ → ℕ
+dayLength m d = 96
+
+-- The quarter-hour of day d, "0 to 95, quarter 0 starting at midnight", that its reading j stands for (0 is the first).
+unfoldable pub quarterOf : ℕ → ℕ → ℕ → ℕ
+quarterOf m d j = j
+
+-- The readings of the first n days of month m.
+unfoldable pub readingsThrough : ℕ → ℕ → ℕ
+readingsThrough m zero = 0
+readingsThrough m (suc n) = readingsThrough m n + dayLength m (suc n)
+
+-- "A register has 96 readings for each day of the month": its length.
+unfoldable pub monthLength : ℕ → ℕ
+monthLength m = readingsThrough m (daysIn m)
