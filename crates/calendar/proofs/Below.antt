@@ -11,11 +11,11 @@ abbrev pub all-below : (ℕ → Bool) → ℕ → Bool
 all-below f zero = true
 all-below f (suc n) = f n && all-below f n
 
-and-left : (a b : Bool) → T (a && b) → T a
+pub and-left : (a b : Bool) → T (a && b) → T a
 and-left true b t = tt
 and-left false b t = t
 
-and-right : (a b : Bool) → T (a && b) → T b
+pub and-right : (a b : Bool) → T (a && b) → T b
 and-right true b t = t
 and-right false b t = absurd t
 

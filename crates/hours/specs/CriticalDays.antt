@@ -1,0 +1,28 @@
+-- Document 01, "Calendar and hours", last paragraph: the number that names the critical days, and refusal 9.
+-- x is that number, 32 bits wide; day 1 is the first.
+use mathlib.Core.Bool.{Bool, true, false, cond, _&&_, _||_}
+use Prim.Native.Nat.{ℕ, zero, suc, _+_, _-_, _/_, _%_, _^_}
+use lib.Dec.{eqb, leb, ltb}
+use Rattle.calendar.specs.Calendar.{daysIn}
+
+-- "bit d − 1 set means day d, bit 0 being the lowest"
+unfoldable pub isCritical : ℕ → ℕ → Bool
+isCritical x d = leb 1 d && eqb (x / 2 ^ (d - 1) % 2) 1
+
+-- How many of the first n days are critical.
+unfoldable pub criticalCount : ℕ → ℕ → ℕ
+criticalCount x zero = 0
+criticalCount x (suc n) = criticalCount x n + cond (isCritical x (suc n)) 1 0
+
+-- Whether one of the n days after day a is critical.
+unfoldable pub criticalAfter : ℕ → ℕ → ℕ → Bool
+criticalAfter x a zero = false
+criticalAfter x a (suc n) = criticalAfter x a n || isCritical x (a + suc n)
+
+-- Refusal 9, its first half: "a bit past the month's last day".
+unfoldable pub pastLastDay : ℕ → ℕ → Bool
+pastLastDay m x = criticalAfter x (daysIn m) (32 - daysIn m)
+
+-- Refusal 9: "a bit past the month's last day, or more than 10".
+unfoldable pub criticalRefused : ℕ → ℕ → Bool
+criticalRefused m x = pastLastDay m x || ltb 10 (criticalCount x 32)

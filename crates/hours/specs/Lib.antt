@@ -1,0 +1,2 @@
+pub mod CriticalDays
+pub mod Hours

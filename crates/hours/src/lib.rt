@@ -1,0 +1,131 @@
+// The hours of document 01: the schedule, the critical days, and the period of a quarter-hour.
+ghost use mathlib.Core.Path.{_≡_};
+ghost use Rattle.calendar.specs.Calendar.{seasonOf, dayKindOf};
+ghost use Rattle.hours.specs.CriticalDays.{isCritical, criticalCount, pastLastDay, criticalRefused};
+ghost use Rattle.hours.specs.Hours.{scheduled, rowOf, periodOn};
+
+mod schedule;
+
+use calendar::DayKind;
+use calendar::Season;
+use schedule::SCHEDULE;
+
+// The periods, dearest first.
+pub const CRITICAL: u8 = 0;
+
+pub const ON_PEAK: u8 = 1;
+
+pub const OFF_PEAK: u8 = 2;
+
+pub const DISCOUNT: u8 = 3;
+
+// The most critical days that a month may have.
+const MOST_CRITICAL_DAYS: u32 = 10;
+
+// A number with every bit set.
+const ALL_BITS: u32 = 0xffff_ffff;
+
+// Four amounts, one for each period.
+pub struct ByPeriod {
+    pub critical: u64,
+    pub onpeak: u64,
+    pub offpeak: u64,
+    pub discount: u64,
+}
+
+// What decides the period of a quarter-hour on one day.
+pub struct DayHours {
+    pub season: Season,
+    pub kind: DayKind,
+    pub critical: bool,
+}
+
+// Where the row of a season and a day kind starts in the schedule.
+pub fn row_of(season: Season, kind: DayKind) -> usize
+    ensures { λ r. ⌜ r ≡ rowOf season kind ⌝ }
+{
+    match season {
+        Season::Winter => match kind {
+            DayKind::Weekday => 0,
+            DayKind::Weekend => 96,
+        },
+        Season::Summer => match kind {
+            DayKind::Weekday => 192,
+            DayKind::Weekend => 288,
+        },
+    }
+}
+
+// The scheduled period of a quarter-hour; past the day's last one, off-peak.
+pub fn scheduled_period(season: Season, kind: DayKind, quarter: usize) -> u8
+    ensures { λ r. ⌜ r ≡ scheduled season kind quarter ⌝ }
+{
+    if 96 <= quarter {
+        return OFF_PEAK;
+    }
+    SCHEDULE[row_of(season, kind) + quarter]
+}
+
+// The period of a quarter-hour of a day.
+pub fn period(day: DayHours, quarter: usize) -> u8
+    ensures { λ r. ⌜ r ≡ periodOn (day .season) (day .kind) (day .critical) quarter ⌝ }
+{
+    let season = day.season;
+    let kind = day.kind;
+    let entry = scheduled_period(season, kind, quarter);
+    if day.critical {
+        if entry == ON_PEAK {
+            return CRITICAL;
+        }
+    }
+    entry
+}
+
+// Whether a day is among the critical days.
+pub fn is_critical(critical_days: u32, day: u32) -> bool
+    ensures { λ r. ⌜ r ≡ isCritical «critical_days» day ⌝ }
+{
+    if day == 0 {
+        return false;
+    }
+    if 32 < day {
+        return false;
+    }
+    (critical_days >> (day - 1)) & 1 == 1
+}
+
+// The number of critical days.
+pub fn critical_count(critical_days: u32) -> u32
+    ensures { λ r. ⌜ r ≡ criticalCount «critical_days» 32 ⌝ }
+{
+    u32::count_ones(critical_days)
+}
+
+// Whether a day past the month's last one is among the critical days.
+pub fn past_last_day(month: u32, critical_days: u32) -> bool
+    ensures { λ r. ⌜ r ≡ pastLastDay month «critical_days» ⌝ }
+{
+    let past = ALL_BITS << calendar::days_in(month);
+    critical_days & past != 0
+}
+
+// Whether the critical days are refused (number 9).
+pub fn critical_refused(month: u32, critical_days: u32) -> bool
+    ensures { λ r. ⌜ r ≡ criticalRefused month «critical_days» ⌝ }
+{
+    if past_last_day(month, critical_days) {
+        return true;
+    }
+    MOST_CRITICAL_DAYS < critical_count(critical_days)
+}
+
+// What decides the periods of a day of a month.
+pub fn day_hours(month: u32, day: u32, critical_days: u32) -> DayHours
+    ensures { λ r. ⌜ (r .season ≡ seasonOf month) × (r .kind ≡ dayKindOf month day) × (r .critical ≡ isCritical «critical_days» day) ⌝ }
+{
+    DayHours {
+        season: calendar::season_of(month),
+        kind: calendar::day_kind_of(month, day),
+        critical: is_critical(critical_days, day),
+    }
+}
