@@ -7,6 +7,7 @@ use Rattle.calendar.specs.declared.Season.{Season}
 use Rattle.calendar.specs.declared.Season.the-variants.{Winter, Summer}
 use Rattle.calendar.specs.declared.DayKind.{DayKind}
 use Rattle.calendar.specs.declared.DayKind.the-variants.{Weekday, Weekend}
+use Rattle.hours.specs.declared.ByPeriod.{ByPeriod}
 use Rattle.hours.specs.CriticalDays.{isCritical}
 
 -- "Four periods, dearest first: 0 critical, 1 on-peak, 2 off-peak, 3 discount."
@@ -46,3 +47,7 @@ periodOn s k c q = cond (c && eqb (scheduled s k q) onPeak) critical (scheduled 
 -- The period of reading j of day d of month m, where x names the critical days.
 unfoldable pub periodOf : ℕ → ℕ → ℕ → ℕ → ℕ
 periodOf m x d j = periodOn (seasonOf m) (dayKindOf m d) (isCritical x d) (quarterOf m d j)
+
+-- Four amounts, one for each period, from the amount of period p.
+abbrev pub byPeriod : (ℕ → ℕ) → ByPeriod
+byPeriod f = record { critical = f critical; onpeak = f onPeak; offpeak = f offPeak; discount = f discount }

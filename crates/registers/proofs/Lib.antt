@@ -1,0 +1,3 @@
+mod Counting
+pub mod Laws
+pub mod View
