@@ -1,5 +1,5 @@
 -- What callers know of the calendar: bounds, and how the readings of the days add up. They cite these laws and never open the
--- definitions, so that another length of a day changes this file alone.
+-- definitions, so that another length of a day changes no other crate.
 use mathlib.Core.Path.{_≡_, refl, ap, _∙_, sym}
 use mathlib.Core.Bool.{Bool, true, false, cond, _&&_}
 use Prim.Native.Nat.{ℕ, zero, suc, _+_, _-_, _*_, _/_, _%_, _≤_, _<_}

@@ -2,25 +2,21 @@
 -- a leap day ends its year. Each month adds its days, so the count follows the definition's recursion.
 use mathlib.Core.Path.{_≡_, refl, ap, _∙_, sym}
 use mathlib.Core.Bool.{Bool, true, false, cond, _&&_, _||_, not}
-use mathlib.Core.List.{List, [], _∷_}
 use mathlib.Core.Logic.{⊎-elim}
 use Prim.Native.Nat.{ℕ, zero, suc, _+_, _-_, _*_, _/_, _%_, _≤_, _<_}
 use native.Mathlib.Nat.{eq-or-lt-of-le}
 use native.Mathlib.Numerals.{add-one}
 use native.Mathlib.Omega.{arith}
 use borrow.Author.Tests.{eq-eqb, ne-eqb, eqb-true, eqb-false}
-use lib.Dec.{T, leb, leb→le, eqb, eqb→eq}
+use lib.Dec.{T, eqb, eqb→eq}
 use lib.ListN.{getD}
 use Rattle.calendar.specs.Calendar.{yearOf, isLeap, commonDays, leapDay, daysIn, firstWeekday}
 use Rattle.calendar.proofs.Below.{below}
 use Rattle.calendar.proofs.Laws.{daysIn-is}
 
 -- The days from 1 March to the first day of March, April and so on to February.
-abbrev pub fromMarch : List ℕ
-fromMarch = 0 ∷ 31 ∷ 61 ∷ 92 ∷ 122 ∷ 153 ∷ 184 ∷ 214 ∷ 245 ∷ 275 ∷ 306 ∷ 337 ∷ []
-
-pub fromMarch-le : (k : ℕ) → k < 12 → getD fromMarch k 0 ≤ 337
-fromMarch-le k h = leb→le _ _ (below (λ k. leb (getD fromMarch k 0) 337) 12 tt k h)
+abbrev pub fromMarch : ℕ → ℕ
+fromMarch k = (153 * k + 2) / 5
 
 -- The leap days in the first y years from March 1999.
 unfoldable pub leapDays : ℕ → ℕ
@@ -28,7 +24,7 @@ leapDays y = (y + 3) / 4 + (y + 399) / 400 - (y + 99) / 100
 
 -- The days from 1 March 1999 to the first day of the month at place k of year y; and to that of month m.
 abbrev pub days : ℕ → ℕ → ℕ
-days y k = 365 * y + leapDays y + getD fromMarch k 0
+days y k = 365 * y + leapDays y + fromMarch k
 
 unfoldable pub count : ℕ → ℕ
 count m = days ((m + 10) / 12) ((m + 10) % 12)
@@ -75,8 +71,8 @@ leap y =
     (by4 y _ refl) (by100 y _ refl) (by400 y _ refl) (fewer y) (hundred (2000 + y)) (four-hundred (2000 + y))
 
 -- From the first day of a month, but February, to that of the next.
-next : (k : ℕ) → k < 11 → getD fromMarch (k + 1) 0 ≡ getD fromMarch k 0 + getD commonDays ((k + 2) % 12) 0
-next k h = eqb→eq _ _ (below (λ k. eqb (getD fromMarch (k + 1) 0) (getD fromMarch k 0 + getD commonDays ((k + 2) % 12) 0)) 11 tt k h)
+next : (k : ℕ) → k < 11 → fromMarch (k + 1) ≡ fromMarch k + getD commonDays ((k + 2) % 12) 0
+next k h = eqb→eq _ _ (below (λ k. eqb (fromMarch (k + 1)) (fromMarch k + getD commonDays ((k + 2) % 12) 0)) 11 tt k h)
 
 -- A month other than February has no leap day, and February has one in a leap year.
 no-leap-day : (m : ℕ) → (m + 10) % 12 < 11 → leapDay m ≡ 0

@@ -1,5 +1,5 @@
--- Document 01, "Calendar and hours", first paragraph: months, their days, weekdays, and the readings of a day and of a month.
--- A month, a day and a reading of a day are numbers; each definition holds for every number.
+-- Document 01, "Calendar and hours": months, their days, weekdays and seasons; and the readings that a register has of them.
+-- m is a month, d a day of it (1 is the first) and j a reading of that day (0 is the first). Each definition holds for every number.
 use mathlib.Core.Bool.{Bool, cond, not, _&&_, _||_}
 use mathlib.Core.List.{List, [], _∷_}
 use Prim.Native.Nat.{ℕ, zero, suc, _+_, _-_, _*_, _/_, _%_}
@@ -10,7 +10,15 @@ use Rattle.calendar.specs.declared.Season.the-variants.{Winter, Summer}
 use Rattle.calendar.specs.declared.DayKind.{DayKind}
 use Rattle.calendar.specs.declared.DayKind.the-variants.{Weekday, Weekend}
 
--- "A month is numbered 12 × (year − 2000) + (month of the year − 1)": the year of month m.
+-- "A month is numbered 12 × (year − 2000) + (month of the year − 1)": month k of year y.
+abbrev pub monthNumber : ℕ → ℕ → ℕ
+monthNumber y k = 12 * (y - 2000) + (k - 1)
+
+-- "1199 is December 2099": the last month.
+abbrev pub lastMonth : ℕ
+lastMonth = monthNumber 2099 12
+
+-- The year of month m.
 abbrev pub yearOf : ℕ → ℕ
 yearOf m = 2000 + m / 12
 
@@ -18,7 +26,7 @@ yearOf m = 2000 + m / 12
 abbrev pub monthOfYear : ℕ → ℕ
 monthOfYear m = m % 12 + 1
 
--- "The Gregorian calendar": each fourth year is a leap year, but of the hundredth years only each four-hundredth.
+-- The Gregorian calendar: each fourth year is a leap year, but of the hundredth years only each four-hundredth.
 unfoldable pub isLeap : ℕ → Bool
 isLeap y = eqb (y % 4) 0 && (not (eqb (y % 100) 0) || eqb (y % 400) 0)
 
@@ -30,7 +38,7 @@ commonDays = 31 ∷ 28 ∷ 31 ∷ 30 ∷ 31 ∷ 30 ∷ 31 ∷ 31 ∷ 30 ∷ 31 �
 unfoldable pub leapDay : ℕ → ℕ
 leapDay m = cond (eqb (monthOfYear m) 2 && isLeap (yearOf m)) 1 0
 
--- "The Gregorian calendar gives its days."
+-- "The Gregorian calendar gives its days".
 unfoldable pub daysIn : ℕ → ℕ
 daysIn m = getD commonDays (monthOfYear m - 1) 0 + leapDay m
 
@@ -40,7 +48,7 @@ unfoldable pub firstWeekday : ℕ → ℕ
 firstWeekday zero = 5
 firstWeekday (suc m) = (firstWeekday m + daysIn m) % 7
 
--- The weekday of day d of month m (1 is the first day).
+-- The weekday of day d of month m.
 unfoldable pub weekdayOf : ℕ → ℕ → ℕ
 weekdayOf m d = (firstWeekday m + (d - 1)) % 7
 
@@ -52,11 +60,11 @@ dayKindOf m d = cond (ltb (weekdayOf m d) 5) Weekday Weekend
 unfoldable pub seasonOf : ℕ → Season
 seasonOf m = cond (leb 7 (monthOfYear m) && leb (monthOfYear m) 9) Summer Winter
 
--- "Each day has 96 quarter-hours": the readings of day d of month m in a register.
+-- "A register has 96 readings for each day of the month": those of day d of month m.
 unfoldable pub dayLength : ℕ → ℕ → ℕ
 dayLength m d = 96
 
--- The quarter-hour of day d, "0 to 95, quarter 0 starting at midnight", that its reading j stands for (0 is the first).
+-- "Each day has 96 quarter-hours, 0 to 95, quarter 0 starting at midnight": the one that reading j of day d stands for.
 unfoldable pub quarterOf : ℕ → ℕ → ℕ → ℕ
 quarterOf m d j = j
 
@@ -65,6 +73,6 @@ unfoldable pub readingsThrough : ℕ → ℕ → ℕ
 readingsThrough m zero = 0
 readingsThrough m (suc n) = readingsThrough m n + dayLength m (suc n)
 
--- "A register has 96 readings for each day of the month": its length.
+-- "A register has 96 readings for each day of the month": the length of a register of month m.
 unfoldable pub monthLength : ℕ → ℕ
 monthLength m = readingsThrough m (daysIn m)

@@ -17,8 +17,8 @@ pub enum DayKind {
 // The days of January to December in a common year.
 const COMMON_DAYS: [u32; 12] = [31, 28, 31, 30, 31, 30, 31, 31, 30, 31, 30, 31];
 
-// The days from 1 March to the first day of March, April and so on to February.
-const DAYS_FROM_MARCH: [u64; 12] = [0, 31, 61, 92, 122, 153, 184, 214, 245, 275, 306, 337];
+// December 2099.
+pub const LAST_MONTH: u32 = 1199;
 
 // The quarter-hours of a day.
 const DAY_QUARTERS: usize = 96;
@@ -69,15 +69,14 @@ pub fn days_in(month: u32) -> u32
 }
 
 // The weekday of a month's first day: 0 is Monday, 6 Sunday. Days are counted from 1 March 1999, a Monday, so that a leap
-// day is the last day of its year.
+// day is the last day of its year; from March on, five months have 153 days.
 pub fn first_weekday(month: u32) -> u32
     ensures { λ r. ⌜ r ≡ firstWeekday month ⌝ }
 {
     let months = month as u64 + 10;
     let years = months / 12;
-    let place = (months % 12) as usize;
     let leap_days = (years + 3) / 4 + (years + 399) / 400 - (years + 99) / 100;
-    let days = 365 * years + leap_days + DAYS_FROM_MARCH[place];
+    let days = 365 * years + leap_days + (153 * (months % 12) + 2) / 5;
     (days % 7) as u32
 }
 
@@ -124,11 +123,11 @@ pub fn day_length(month: u32, day: u32) -> usize
     DAY_QUARTERS
 }
 
-// The quarter-hour of the day that its reading stands for.
-pub fn quarter_of(month: u32, day: u32, reading: usize) -> usize
-    ensures { λ r. ⌜ r ≡ quarterOf month day reading ⌝ }
+// The quarter-hour of the day that one of its readings stands for; 0 is the first reading.
+pub fn quarter_of(month: u32, day: u32, place: usize) -> usize
+    ensures { λ r. ⌜ r ≡ quarterOf month day place ⌝ }
 {
-    reading
+    place
 }
 
 // The readings of the first days of a month.

@@ -1,5 +1,5 @@
--- Document 01, "Calendar and hours", last paragraph: the number that names the critical days, and refusal 9.
--- x is that number, 32 bits wide; day 1 is the first.
+-- Document 01, "Calendar and hours", last paragraph, and refusal 9 of the table: the number that names the critical days.
+-- x is that number, 32 bits wide; d is a day, and 1 the first. Day 0 is none.
 use mathlib.Core.Bool.{Bool, true, false, cond, _&&_, _||_}
 use Prim.Native.Nat.{ℕ, zero, suc, _+_, _-_, _/_, _%_, _^_}
 use lib.Dec.{eqb, leb, ltb}
@@ -19,10 +19,10 @@ unfoldable pub criticalAfter : ℕ → ℕ → ℕ → Bool
 criticalAfter x a zero = false
 criticalAfter x a (suc n) = criticalAfter x a n || isCritical x (a + suc n)
 
--- Refusal 9, its first half: "a bit past the month's last day".
+-- Refusal 9, its first half: "a bit past the month's last day". The number has 32 bits.
 unfoldable pub pastLastDay : ℕ → ℕ → Bool
 pastLastDay m x = criticalAfter x (daysIn m) (32 - daysIn m)
 
--- Refusal 9: "a bit past the month's last day, or more than 10".
+-- Refusal 9: "a bit past the month's last day, or more than 10" of the 32 days that can be set.
 unfoldable pub criticalRefused : ℕ → ℕ → Bool
 criticalRefused m x = pastLastDay m x || ltb 10 (criticalCount x 32)

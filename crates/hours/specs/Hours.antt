@@ -1,7 +1,10 @@
--- Document 01, "Calendar and hours", second and third paragraph: the periods and the hours.
-use mathlib.Core.Bool.{Bool, true, false, cond, _&&_}
-use Prim.Native.Nat.{ℕ}
+-- Document 01, "Calendar and hours": the periods, the schedule and the critical days' effect.
+-- s is a season, k a kind of day, q a quarter of a day, p a period; m, d and j are as in the calendar.
+use mathlib.Core.Bool.{Bool, true, false, cond, _&&_, _||_}
+use mathlib.Core.List.{List, [], _∷_, _++_}
+use Prim.Native.Nat.{ℕ, zero, suc, _+_}
 use lib.Dec.{eqb, leb}
+use lib.ListN.{getD}
 use Rattle.calendar.specs.Calendar.{seasonOf, dayKindOf, quarterOf}
 use Rattle.calendar.specs.declared.Season.{Season}
 use Rattle.calendar.specs.declared.Season.the-variants.{Winter, Summer}
@@ -29,24 +32,38 @@ isOnPeak Winter k q = leb 68 q && leb q 83
 isOnPeak Summer Weekday q = leb 52 q && leb q 71
 isOnPeak Summer Weekend q = false
 
--- "In both seasons quarters 4 to 23 are discount every day. All others are off-peak."
-unfoldable pub scheduled : Season → DayKind → ℕ → ℕ
-scheduled s k q = cond (isOnPeak s k q) onPeak (cond (leb 4 q && leb q 23) discount offPeak)
+-- "In both seasons quarters 4 to 23 are discount every day", and "All others are off-peak."
+unfoldable pub windowPeriod : Season → DayKind → ℕ → ℕ
+windowPeriod s k q = cond (isOnPeak s k q) onPeak (cond (leb 4 q && leb q 23) discount offPeak)
 
--- The schedule's order: winter weekdays, winter weekends, summer weekdays, summer weekends, 96 entries for each.
-abbrev pub rowOf : Season → DayKind → ℕ
-rowOf Winter Weekday = 0
-rowOf Winter Weekend = 96
-rowOf Summer Weekday = 192
-rowOf Summer Weekend = 288
+-- The windows of n quarters of a day, from quarter q on.
+unfoldable pub windows : Season → DayKind → ℕ → ℕ → List ℕ
+windows s k q zero = []
+windows s k q (suc n) = windowPeriod s k q ∷ windows s k (suc q) n
 
--- "On a critical day its on-peak quarters become critical": the period of quarter q on a day that is critical or not.
-unfoldable pub periodOn : Season → DayKind → Bool → ℕ → ℕ
-periodOn s k c q = cond (c && eqb (scheduled s k q) onPeak) critical (scheduled s k q)
+-- "The hours are kept as a fixed schedule of 384 entries, one for each season, day kind and quarter": 96 for the weekdays and 96 for
+-- the weekends of winter, then those of summer (our order, open point 9).
+unfoldable pub fixedSchedule : List ℕ
+fixedSchedule = windows Winter Weekday 0 96 ++ windows Winter Weekend 0 96 ++ windows Summer Weekday 0 96 ++ windows Summer Weekend 0 96
 
--- The period of reading j of day d of month m, where x names the critical days.
-unfoldable pub periodOf : ℕ → ℕ → ℕ → ℕ → ℕ
-periodOf m x d j = periodOn (seasonOf m) (dayKindOf m d) (isCritical x d) (quarterOf m d j)
+-- Where the row of a season and a day kind starts in a schedule.
+abbrev pub rowStart : Season → DayKind → ℕ
+rowStart Winter Weekday = 0
+rowStart Winter Weekend = 96
+rowStart Summer Weekday = 192
+rowStart Summer Weekend = 288
+
+-- The periods of step 6's demand, "periods 0 and 1".
+abbrev pub isPeak : ℕ → Bool
+isPeak p = eqb p critical || eqb p onPeak
+
+-- "On a critical day its on-peak quarters become critical."
+unfoldable pub periodOnDay : Bool → ℕ → ℕ
+periodOnDay isCriticalDay p = cond (isCriticalDay && eqb p onPeak) critical p
+
+-- The period of reading j of day d of month m by a schedule, where x names the critical days.
+unfoldable pub periodOf : List ℕ → ℕ → ℕ → ℕ → ℕ → ℕ
+periodOf schedule m x d j = periodOnDay (isCritical x d) (getD schedule (rowStart (seasonOf m) (dayKindOf m d) + quarterOf m d j) 0)
 
 -- Four amounts, one for each period, from the amount of period p.
 abbrev pub byPeriod : (ℕ → ℕ) → ByPeriod

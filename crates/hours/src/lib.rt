@@ -2,7 +2,7 @@
 ghost use mathlib.Core.Path.{_≡_};
 ghost use Rattle.calendar.specs.Calendar.{seasonOf, dayKindOf};
 ghost use Rattle.hours.specs.CriticalDays.{isCritical, criticalCount, pastLastDay, criticalRefused};
-ghost use Rattle.hours.specs.Hours.{scheduled, rowOf, periodOn};
+ghost use Rattle.hours.specs.Hours.{fixedSchedule, rowStart, periodOnDay};
 
 mod schedule;
 
@@ -33,16 +33,22 @@ pub struct ByPeriod {
     pub discount: u64,
 }
 
-// What decides the period of a quarter-hour on one day.
+// What decides the periods of a day: where its row starts in a schedule, and whether it is critical.
 pub struct DayHours {
-    pub season: Season,
-    pub kind: DayKind,
+    pub row: usize,
     pub critical: bool,
 }
 
+// The fixed schedule.
+pub fn fixed_schedule() -> [u8; 384]
+    ensures { λ r. ⌜ r ≡ fixedSchedule ⌝ }
+{
+    SCHEDULE
+}
+
 // Where the row of a season and a day kind starts in the schedule.
-pub fn row_of(season: Season, kind: DayKind) -> usize
-    ensures { λ r. ⌜ r ≡ rowOf season kind ⌝ }
+pub fn row_start(season: Season, kind: DayKind) -> usize
+    ensures { λ r. ⌜ r ≡ rowStart season kind ⌝ }
 {
     match season {
         Season::Winter => match kind {
@@ -56,23 +62,10 @@ pub fn row_of(season: Season, kind: DayKind) -> usize
     }
 }
 
-// The scheduled period of a quarter-hour; past the day's last one, off-peak.
-pub fn scheduled_period(season: Season, kind: DayKind, quarter: usize) -> u8
-    ensures { λ r. ⌜ r ≡ scheduled season kind quarter ⌝ }
+// The period of a schedule's entry on a day.
+pub fn period_on(day: DayHours, entry: u8) -> u8
+    ensures { λ r. ⌜ r ≡ periodOnDay (day .critical) entry ⌝ }
 {
-    if 96 <= quarter {
-        return OFF_PEAK;
-    }
-    SCHEDULE[row_of(season, kind) + quarter]
-}
-
-// The period of a quarter-hour of a day.
-pub fn period(day: DayHours, quarter: usize) -> u8
-    ensures { λ r. ⌜ r ≡ periodOn (day .season) (day .kind) (day .critical) quarter ⌝ }
-{
-    let season = day.season;
-    let kind = day.kind;
-    let entry = scheduled_period(season, kind, quarter);
     if day.critical {
         if entry == ON_PEAK {
             return CRITICAL;
@@ -121,11 +114,13 @@ pub fn critical_refused(month: u32, critical_days: u32) -> bool
 
 // What decides the periods of a day of a month.
 pub fn day_hours(month: u32, day: u32, critical_days: u32) -> DayHours
-    ensures { λ r. ⌜ (r .season ≡ seasonOf month) × (r .kind ≡ dayKindOf month day) × (r .critical ≡ isCritical «critical_days» day) ⌝ }
+    ensures { λ r. ⌜ (r .row ≡ rowStart (seasonOf month) (dayKindOf month day)) × (r .critical ≡ isCritical «critical_days» day) ⌝ }
 {
     DayHours {
-        season: calendar::season_of(month),
-        kind: calendar::day_kind_of(month, day),
+        row: row_start(
+            calendar::season_of(month),
+            calendar::day_kind_of(month, day),
+        ),
         critical: is_critical(critical_days, day),
     }
 }

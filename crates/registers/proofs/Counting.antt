@@ -1,75 +1,74 @@
 -- The steps of the one pass over a register, over plain values: where a day starts, each of its readings, and where it ends.
 use mathlib.Core.Path.{_≡_, refl, ap, _∙_, sym}
-use mathlib.Core.Bool.{true, false, cond, not}
+use mathlib.Core.Bool.{true, false, cond}
 use mathlib.Core.List.{List}
 use Prim.Native.Nat.{ℕ, _+_, _*_, _^_, _≤_, _<_, max}
 use native.Mathlib.Nat.{add-zero, add-assoc, mul-le-mul-right, le-trans}
 use native.Mathlib.Omega.{arith}
-use borrow.Author.Tests.{eq-eqb, ne-eqb}
 use lib.Dec.{eqb}
 use lib.ListN.{length}
 use Rattle.calendar.specs.Calendar.{daysIn, dayLength, readingsThrough, monthLength}
 use Rattle.calendar.proofs.Laws.{daysIn-le, dayLength-le, through-none, through-more, through-mono, monthLength-is, monthLength-le}
 use Rattle.hours.specs.Hours.{critical, onPeak, offPeak, discount, periodOf}
 use Rattle.registers.specs.declared.Count.{Count}
-use Rattle.registers.specs.Registers.{reading, daySum, daysSum, sumOf, dayPeak, daysPeak, demandOf, aboveLimit, readingRefused, lengthRefused, tallyOf, tallied}
-use Rattle.registers.specs.declared.Tallied.the-variants.{WrongLength, Readings}
+use Rattle.registers.specs.declared.Tally.{Tally}
+use Rattle.registers.specs.Registers.{reading, daySum, daysSum, sumOf, dayPeak, daysPeak, demandPower, someAbove, readingRefused, lengthRefused, tallyOf}
 use Rattle.registers.specs.Counting.{Room, Added, Counted}
 use Rattle.registers.proofs.Laws.{sum-none, sum-more, days-sum-none, days-sum-more, peak-none, peak-more, days-peak-none, days-peak-more}
-use Rattle.registers.proofs.Laws.{above-none, above-more, sum-le, days-sum-le}
+use Rattle.registers.proofs.Laws.{above-none, above-more, sum-le, days-sum-le, wrong-length, right-length}
 
 -- The count b is a, that of the first n days, with the first j readings of the next day.
-pub record DayCounted (m x : ℕ) (r : List ℕ) (n : ℕ) (a : Count) (j : ℕ) (b : Count) : Type 0 where
-  pub critical : b .critical ≡ a .critical + daySum m x r n critical j
-  pub onpeak : b .onpeak ≡ a .onpeak + daySum m x r n onPeak j
-  pub offpeak : b .offpeak ≡ a .offpeak + daySum m x r n offPeak j
-  pub discount : b .discount ≡ a .discount + daySum m x r n discount j
-  pub peak : b .peak ≡ max (a .peak) (dayPeak m x r n j)
-  pub refused : b .refused ≡ aboveLimit r (readingsThrough m n + j)
+pub record DayCounted (schedule : List ℕ) (m x : ℕ) (r : List ℕ) (n : ℕ) (a : Count) (j : ℕ) (b : Count) : Type 0 where
+  pub critical : b .critical ≡ a .critical + daySum schedule m x r critical n j
+  pub onpeak : b .onpeak ≡ a .onpeak + daySum schedule m x r onPeak n j
+  pub offpeak : b .offpeak ≡ a .offpeak + daySum schedule m x r offPeak n j
+  pub discount : b .discount ≡ a .discount + daySum schedule m x r discount n j
+  pub peak : b .peak ≡ max (a .peak) (dayPeak schedule m x r n j)
+  pub above : b .above ≡ someAbove r (readingsThrough m n + j)
 
-module _ (m x : ℕ) (r : List ℕ) where
-  pub month-start : Counted m x r 0 (record { critical = 0; onpeak = 0; offpeak = 0; discount = 0; peak = 0; refused = false })
+module _ (schedule : List ℕ) (m x : ℕ) (r : List ℕ) where
+  pub month-start : Counted schedule m x r 0 (record { critical = 0; onpeak = 0; offpeak = 0; discount = 0; peak = 0; above = false })
   month-start = record {
-    critical = sym (days-sum-none m x r critical);
-    onpeak = sym (days-sum-none m x r onPeak);
-    offpeak = sym (days-sum-none m x r offPeak);
-    discount = sym (days-sum-none m x r discount);
-    peak = sym (days-peak-none m x r);
-    refused = rw (through-none m, above-none r);
+    critical = sym (days-sum-none schedule m x r critical);
+    onpeak = sym (days-sum-none schedule m x r onPeak);
+    offpeak = sym (days-sum-none schedule m x r offPeak);
+    discount = sym (days-sum-none schedule m x r discount);
+    peak = sym (days-peak-none schedule m x r);
+    above = rw (through-none m, above-none r);
   }
 
-  pub day-start : (n : ℕ) (a : Count) → Counted m x r n a → DayCounted m x r n a 0 a
+  pub day-start : (n : ℕ) (a : Count) → Counted schedule m x r n a → DayCounted schedule m x r n a 0 a
   day-start n a k = record {
-    critical = omega (arith, sum-none m x r n critical);
-    onpeak = omega (arith, sum-none m x r n onPeak);
-    offpeak = omega (arith, sum-none m x r n offPeak);
-    discount = omega (arith, sum-none m x r n discount);
-    peak = omega (arith, peak-none m x r n);
-    refused = rw add-zero (k .refused);
+    critical = omega (arith, sum-none schedule m x r critical n);
+    onpeak = omega (arith, sum-none schedule m x r onPeak n);
+    offpeak = omega (arith, sum-none schedule m x r offPeak n);
+    discount = omega (arith, sum-none schedule m x r discount n);
+    peak = omega (arith, peak-none schedule m x r n);
+    above = rw add-zero (k .above);
   }
 
-  pub day-step : (n : ℕ) (a : Count) (j : ℕ) (b d : Count) {p v : ℕ} → p ≡ periodOf m x (n + 1) j → v ≡ reading r (readingsThrough m n + j)
-      → DayCounted m x r n a j b → Added b p v d → DayCounted m x r n a (j + 1) d
+  pub day-step : (n : ℕ) (a : Count) (j : ℕ) (b d : Count) {p v : ℕ} → p ≡ periodOf schedule m x (n + 1) j → v ≡ reading r (readingsThrough m n + j)
+      → DayCounted schedule m x r n a j b → Added b p v d → DayCounted schedule m x r n a (j + 1) d
   day-step n a j b d {p} {v} e f k s = record {
     critical = sum critical (a .critical) (k .critical) (s .critical);
     onpeak = sum onPeak (a .onpeak) (k .onpeak) (s .onpeak);
     offpeak = sum offPeak (a .offpeak) (k .offpeak) (s .offpeak);
     discount = sum discount (a .discount) (k .discount) (s .discount);
-    peak = rw (peak-more m x r n j, ← e, ← f) (omega (arith, k .peak, s .peak));
-    refused = rw (← (add-assoc (readingsThrough m n) j 1), above-more, ← f, ← (k .refused)) (s .refused);
+    peak = rw (peak-more schedule m x r n j, ← e, ← f) (omega (arith, k .peak, s .peak));
+    above = rw (← (add-assoc (readingsThrough m n) j 1), above-more, ← f, ← (k .above)) (s .above);
   }
     where
-      sum : (q t : ℕ) {u w : ℕ} → u ≡ t + daySum m x r n q j → w ≡ u + cond (eqb p q) v 0 → w ≡ t + daySum m x r n q (j + 1)
-      sum q t g h = rw (sum-more m x r n q j, ← e, ← f) (omega arith)
+      sum : (q t : ℕ) {u w : ℕ} → u ≡ t + daySum schedule m x r q n j → w ≡ u + cond (eqb p q) v 0 → w ≡ t + daySum schedule m x r q n (j + 1)
+      sum q t g h = rw (sum-more schedule m x r q n j, ← e, ← f) (omega arith)
 
-  pub day-end : (n : ℕ) (a b : Count) → Counted m x r n a → DayCounted m x r n a (dayLength m (n + 1)) b → Counted m x r (n + 1) b
+  pub day-end : (n : ℕ) (a b : Count) → Counted schedule m x r n a → DayCounted schedule m x r n a (dayLength m (n + 1)) b → Counted schedule m x r (n + 1) b
   day-end n a b k d = record {
-    critical = omega (arith, days-sum-more m x r critical n, k .critical, d .critical);
-    onpeak = omega (arith, days-sum-more m x r onPeak n, k .onpeak, d .onpeak);
-    offpeak = omega (arith, days-sum-more m x r offPeak n, k .offpeak, d .offpeak);
-    discount = omega (arith, days-sum-more m x r discount n, k .discount, d .discount);
-    peak = omega (arith, days-peak-more m x r n, k .peak, d .peak);
-    refused = rw (through-more m n) (d .refused);
+    critical = omega (arith, days-sum-more schedule m x r critical n, k .critical, d .critical);
+    onpeak = omega (arith, days-sum-more schedule m x r onPeak n, k .onpeak, d .onpeak);
+    offpeak = omega (arith, days-sum-more schedule m x r offPeak n, k .offpeak, d .offpeak);
+    discount = omega (arith, days-sum-more schedule m x r discount n, k .discount, d .discount);
+    peak = omega (arith, days-peak-more schedule m x r n, k .peak, d .peak);
+    above = rw (through-more m n) (d .above);
   }
 
   -- The place of a reading of the day after the first n is within the month.
@@ -77,7 +76,7 @@ module _ (m x : ℕ) (r : List ℕ) where
   in-month n j h l = omega (arith, monthLength-is m, through-more m n, through-mono m (n + 1) (daysIn m) (omega arith))
 
   -- Sums of at most a month's readings of 32 bits have room for another.
-  pub room : ((i : ℕ) → reading r i ≤ 4294967295) → (n : ℕ) (a : Count) (j : ℕ) (b : Count) → Counted m x r n a → DayCounted m x r n a j b
+  pub room : ((i : ℕ) → reading r i ≤ 4294967295) → (n : ℕ) (a : Count) (j : ℕ) (b : Count) → Counted schedule m x r n a → DayCounted schedule m x r n a j b
       → n < daysIn m → j ≤ dayLength m (n + 1) → Room b
   room w n a j b k d h l =
       let few : readingsThrough m n + j ≤ 2976 = omega (arith, in-month n j h l, monthLength-le m) in
@@ -88,23 +87,41 @@ module _ (m x : ℕ) (r : List ℕ) where
         discount = fits discount (k .discount) (d .discount) few;
       }
     where
-      fits : (p : ℕ) {v u : ℕ} → v ≡ daysSum m x r p n → u ≡ v + daySum m x r n p j → readingsThrough m n + j ≤ 2976 → u < 2 ^ 63
-      fits p e f few = omega (arith, days-sum-le m x r 4294967295 w p n, sum-le m x r 4294967295 w n p j)
+      fits : (p : ℕ) {v u : ℕ} → v ≡ daysSum schedule m x r p n → u ≡ v + daySum schedule m x r p n j → readingsThrough m n + j ≤ 2976 → u < 2 ^ 63
+      fits p e f few = omega (arith, days-sum-le schedule m x r 4294967295 w p n, sum-le schedule m x r 4294967295 w p n j)
 
-  -- The answers for a register of the wrong length and of the right one.
-  pub wrong-length : (length r ≡ monthLength m → ⊥) → WrongLength ≡ tallied m x r
-  unfolding tallied lengthRefused
-  wrong-length h = rw (ne-eqb (length r) (monthLength m) h)
-
-  pub right-length : (a : Count) → length r ≡ monthLength m → Counted m x r (daysIn m) a
-      → Readings
+  -- The tally of a register of the wrong length, and of one of the right length that was counted.
+  pub wrong-tally : (length r ≡ monthLength m → ⊥) →
+      _≡_ {A = Tally}
       (record {
-        sums = record { critical = a .critical; onpeak = a .onpeak; offpeak = a .offpeak; discount = a .discount };
-        demand = 4 * a .peak;
-        refused = a .refused;
+        wronglength = true;
+        abovelimit = false;
+        sums = record { critical = 0; onpeak = 0; offpeak = 0; discount = 0 };
+        power = 0;
       })
-      ≡ tallied m x r
-  unfolding tallied lengthRefused tallyOf sumOf demandOf readingRefused
-  right-length a h k =
-      rw
-      (k .critical, k .onpeak, k .offpeak, k .discount, k .peak, k .refused, eq-eqb (length r) (monthLength m) h, h, monthLength-is m)
+      (tallyOf schedule m x r)
+  unfolding tallyOf
+  wrong-tally h = rw (wrong-length m r refl h)
+
+  pub right-tally : (a : Count) → length r ≡ monthLength m → Counted schedule m x r (daysIn m) a →
+      _≡_ {A = Tally}
+      (record {
+        wronglength = false;
+        abovelimit = a .above;
+        sums = record { critical = a .critical; onpeak = a .onpeak; offpeak = a .offpeak; discount = a .discount };
+        power = 4 * a .peak;
+      })
+      (tallyOf schedule m x r)
+  unfolding tallyOf sumOf demandPower readingRefused
+  right-tally a h k =
+      rw (
+        right-length m r refl h,
+        k .critical,
+        k .onpeak,
+        k .offpeak,
+        k .discount,
+        k .peak,
+        k .above,
+        h,
+        monthLength-is m,
+      )

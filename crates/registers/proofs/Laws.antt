@@ -10,60 +10,60 @@ use lib.Dec.{eqb, leb, ltb}
 use lib.ListN.{length, getD}
 use Rattle.calendar.specs.Calendar.{daysIn, dayLength, readingsThrough, monthLength}
 use Rattle.calendar.proofs.Laws.{through-none, through-more}
-use Rattle.hours.specs.Hours.{onPeak, periodOf}
-use Rattle.registers.specs.Registers.{reading, daySum, daysSum, sumOf, dayPeak, daysPeak, demandOf, aboveLimit, readingRefused, lengthRefused}
+use Rattle.hours.specs.Hours.{isPeak, periodOf}
+use Rattle.registers.specs.Registers.{reading, daySum, daysSum, sumOf, dayPeak, daysPeak, demandPower, readingLimit, someAbove, readingRefused, lengthRefused}
 
 -- A reading is what stands at its place.
 pub reading-is : (r : List ℕ) (i : ℕ) → reading r i ≡ getD r i 0
 unfolding reading
 reading-is r i = refl
 
-module _ (m x : ℕ) (r : List ℕ) where
+module _ (schedule : List ℕ) (m x : ℕ) (r : List ℕ) where
   -- Each reading adds to the sum of its own period.
-  pub sum-none : (n p : ℕ) → daySum m x r n p 0 ≡ 0
+  pub sum-none : (p n : ℕ) → daySum schedule m x r p n 0 ≡ 0
   unfolding daySum
-  sum-none n p = refl
+  sum-none p n = refl
 
-  pub sum-more : (n p j : ℕ) →
-      daySum m x r n p (j + 1) ≡ daySum m x r n p j + cond (eqb (periodOf m x (n + 1) j) p) (reading r (readingsThrough m n + j)) 0
+  pub sum-more : (p n j : ℕ) →
+      daySum schedule m x r p n (j + 1) ≡ daySum schedule m x r p n j + cond (eqb (periodOf schedule m x (n + 1) j) p) (reading r (readingsThrough m n + j)) 0
   unfolding daySum
-  sum-more n p j = simp add-one
+  sum-more p n j = simp add-one
 
   -- Each day adds its sum.
-  pub days-sum-none : (p : ℕ) → daysSum m x r p 0 ≡ 0
+  pub days-sum-none : (p : ℕ) → daysSum schedule m x r p 0 ≡ 0
   unfolding daysSum
   days-sum-none p = refl
 
-  pub days-sum-more : (p n : ℕ) → daysSum m x r p (n + 1) ≡ daysSum m x r p n + daySum m x r n p (dayLength m (n + 1))
+  pub days-sum-more : (p n : ℕ) → daysSum schedule m x r p (n + 1) ≡ daysSum schedule m x r p n + daySum schedule m x r p n (dayLength m (n + 1))
   unfolding daysSum
   days-sum-more p n = simp add-one
 
   -- The same of the largest reading in periods 0 and 1.
-  pub peak-none : (n : ℕ) → dayPeak m x r n 0 ≡ 0
+  pub peak-none : (n : ℕ) → dayPeak schedule m x r n 0 ≡ 0
   unfolding dayPeak
   peak-none n = refl
 
   pub peak-more : (n j : ℕ) →
-      dayPeak m x r n (j + 1)
-      ≡ max (dayPeak m x r n j) (cond (leb (periodOf m x (n + 1) j) onPeak) (reading r (readingsThrough m n + j)) 0)
+      dayPeak schedule m x r n (j + 1)
+      ≡ max (dayPeak schedule m x r n j) (cond (isPeak (periodOf schedule m x (n + 1) j)) (reading r (readingsThrough m n + j)) 0)
   unfolding dayPeak
   peak-more n j = simp add-one
 
-  pub days-peak-none : daysPeak m x r 0 ≡ 0
+  pub days-peak-none : daysPeak schedule m x r 0 ≡ 0
   unfolding daysPeak
   days-peak-none = refl
 
-  pub days-peak-more : (n : ℕ) → daysPeak m x r (n + 1) ≡ max (daysPeak m x r n) (dayPeak m x r n (dayLength m (n + 1)))
+  pub days-peak-more : (n : ℕ) → daysPeak schedule m x r (n + 1) ≡ max (daysPeak schedule m x r n) (dayPeak schedule m x r n (dayLength m (n + 1)))
   unfolding daysPeak
   days-peak-more n = simp add-one
 
 -- One reading more is above the limit, or one before it.
-pub above-none : (r : List ℕ) → aboveLimit r 0 ≡ false
-unfolding aboveLimit
+pub above-none : (r : List ℕ) → someAbove r 0 ≡ false
+unfolding someAbove
 above-none r = refl
 
-pub above-more : (r : List ℕ) (i : ℕ) → aboveLimit r (i + 1) ≡ (aboveLimit r i || ltb 1000000 (reading r i))
-unfolding aboveLimit
+pub above-more : (r : List ℕ) (i : ℕ) → someAbove r (i + 1) ≡ (someAbove r i || ltb readingLimit (reading r i))
+unfolding someAbove
 above-more r i = simp add-one
 
 -- A sum has at most the bound of a reading for each reading.
@@ -71,16 +71,16 @@ part-le : (b : Bool) (v w : ℕ) → v ≤ w → cond b v 0 ≤ w
 part-le true v w h = h
 part-le false v w h = omega arith
 
-module _ (m x : ℕ) (r : List ℕ) (bound : ℕ) (within : (i : ℕ) → reading r i ≤ bound) where
-  pub sum-le : (n p j : ℕ) → daySum m x r n p j ≤ j * bound
+module _ (schedule : List ℕ) (m x : ℕ) (r : List ℕ) (bound : ℕ) (within : (i : ℕ) → reading r i ≤ bound) where
+  pub sum-le : (p n j : ℕ) → daySum schedule m x r p n j ≤ j * bound
   unfolding daySum
-  sum-le n p zero = omega arith
-  sum-le n p (suc j) = omega (arith, sum-le n p j, part-le (eqb (periodOf m x (suc n) j) p) (reading r (readingsThrough m n + j)) bound (within _))
+  sum-le p n zero = omega arith
+  sum-le p n (suc j) = omega (arith, sum-le p n j, part-le (eqb (periodOf schedule m x (suc n) j) p) (reading r (readingsThrough m n + j)) bound (within _))
 
-  pub days-sum-le : (p n : ℕ) → daysSum m x r p n ≤ readingsThrough m n * bound
+  pub days-sum-le : (p n : ℕ) → daysSum schedule m x r p n ≤ readingsThrough m n * bound
   unfolding daysSum readingsThrough
   days-sum-le p zero = omega arith
-  days-sum-le p (suc n) = omega (arith, days-sum-le p n, sum-le n p (dayLength m (suc n)))
+  days-sum-le p (suc n) = omega (arith, days-sum-le p n, sum-le p n (dayLength m (suc n)))
 
 -- Refusal 8, from a length that was compared.
 pub wrong-length : (m : ℕ) (r : List ℕ) {n : ℕ} → n ≡ monthLength m → (length r ≡ n → ⊥) → lengthRefused m r ≡ true

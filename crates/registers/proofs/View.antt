@@ -9,10 +9,10 @@ use borrow.Author.Tests.{eq-eqb, ne-eqb, eqb-true, ltb-false, not-false}
 use lib.Dec.{eqb, ltb}
 use lib.ListN.{length, take, drop}
 use denote.Ref.{RefT, ptr, now}
-use Rattle.calendar.specs.Calendar.{daysIn, dayLength, readingsThrough, monthLength}
+use Rattle.calendar.specs.Calendar.{lastMonth, daysIn, dayLength, readingsThrough, monthLength}
 use Rattle.calendar.proofs.Laws.{through-more, through-mono, monthLength-is}
 use Rattle.registers.specs.Registers.{lengthRefused}
-use Rattle.registers.specs.DayView.{noView, Part, viewOf, IsPart}
+use Rattle.registers.specs.DayView.{emptyView, Part, viewOf, IsPart}
 
 or-no : (a b : Bool) → (a || b) ≡ false → (a ≡ false) × (b ≡ false)
 or-no true b e = absurd (let z : _≡_ {A = ℕ} 0 1 = cc in omega arith)
@@ -30,12 +30,12 @@ pub record Viewed (delivered received : List ℕ) (m d k : ℕ) : Type 0 where
   pub received-length : length received ≡ monthLength m
   pub number : k ≤ 1
 
-pub viewed : (delivered received : List ℕ) (m d k : ℕ) → noView delivered received m d k ≡ false → Viewed delivered received m d k
-unfolding noView
+pub viewed : (delivered received : List ℕ) (m d k : ℕ) → emptyView delivered received m d k ≡ false → Viewed delivered received m d k
+unfolding emptyView
 viewed xs ys m d k e =
-    let (front, number) = or-no (ltb 1199 m || (ltb d 1 || ltb (daysIn m) d) || (lengthRefused m xs || lengthRefused m ys)) (ltb 1 k) e in
-    let (day, lengths) = or-no (ltb 1199 m || (ltb d 1 || ltb (daysIn m) d)) (lengthRefused m xs || lengthRefused m ys) front in
-    let (_, days) = or-no (ltb 1199 m) (ltb d 1 || ltb (daysIn m) d) day in
+    let (front, number) = or-no (ltb lastMonth m || (ltb d 1 || ltb (daysIn m) d) || (lengthRefused m xs || lengthRefused m ys)) (ltb 1 k) e in
+    let (day, lengths) = or-no (ltb lastMonth m || (ltb d 1 || ltb (daysIn m) d)) (lengthRefused m xs || lengthRefused m ys) front in
+    let (_, days) = or-no (ltb lastMonth m) (ltb d 1 || ltb (daysIn m) d) day in
     let (first, last) = or-no (ltb d 1) (ltb (daysIn m) d) days in
     let (one, other) = or-no (lengthRefused m xs) (lengthRefused m ys) lengths in
     record {
@@ -54,12 +54,12 @@ day-end m d h l =
 
 -- What is handed back: the empty part, or the day's part of the register w that is named.
 module _ (delivered received : RefT (List ℕ)) (m d k : ℕ) (v : RefT (List ℕ)) where
-  pub empty-part : noView (now delivered) (now received) m d k ≡ true → ptr v ≡ (ptr delivered .0, 0 * 4 + ptr delivered .1)
+  pub empty-part : emptyView (now delivered) (now received) m d k ≡ true → ptr v ≡ (ptr delivered .0, 0 * 4 + ptr delivered .1)
       → now v ≡ take 0 (drop 0 (now delivered)) → IsPart (viewOf delivered received m d k) v
   unfolding viewOf
   empty-part e p n = rw e (record { place = p; readings = n })
 
-  pub day-part : noView (now delivered) (now received) m d k ≡ false → (w : RefT (List ℕ)) → cond (eqb k 0) delivered received ≡ w
+  pub day-part : emptyView (now delivered) (now received) m d k ≡ false → (w : RefT (List ℕ)) → cond (eqb k 0) delivered received ≡ w
       → (s t : ℕ) → s ≡ readingsThrough m (d - 1) → t ≡ dayLength m d → ptr v ≡ (ptr w .0, s * 4 + ptr w .1)
       → now v ≡ take (s + t - s) (drop s (now w)) → IsPart (viewOf delivered received m d k) v
   unfolding viewOf

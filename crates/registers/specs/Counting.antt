@@ -3,11 +3,11 @@ use mathlib.Core.Path.{_≡_}
 use mathlib.Core.Bool.{cond, _||_}
 use mathlib.Core.List.{List}
 use Prim.Native.Nat.{ℕ, _+_, _^_, _<_, max}
-use lib.Dec.{eqb, leb, ltb}
+use lib.Dec.{eqb, ltb}
 use Rattle.calendar.specs.Calendar.{readingsThrough}
-use Rattle.hours.specs.Hours.{critical, onPeak, offPeak, discount}
+use Rattle.hours.specs.Hours.{critical, onPeak, offPeak, discount, isPeak}
 use Rattle.registers.specs.declared.Count.{Count}
-use Rattle.registers.specs.Registers.{daysSum, daysPeak, aboveLimit}
+use Rattle.registers.specs.Registers.{daysSum, daysPeak, readingLimit, someAbove}
 
 -- Another reading fits each sum.
 pub record Room (a : Count) : Type 0 where
@@ -16,20 +16,20 @@ pub record Room (a : Count) : Type 0 where
   pub offpeak : a .offpeak < 2 ^ 63
   pub discount : a .discount < 2 ^ 63
 
--- The count b is a with one reading more, of period p.
-pub record Added (a : Count) (p reading : ℕ) (b : Count) : Type 0 where
-  pub critical : b .critical ≡ a .critical + cond (eqb p critical) reading 0
-  pub onpeak : b .onpeak ≡ a .onpeak + cond (eqb p onPeak) reading 0
-  pub offpeak : b .offpeak ≡ a .offpeak + cond (eqb p offPeak) reading 0
-  pub discount : b .discount ≡ a .discount + cond (eqb p discount) reading 0
-  pub peak : b .peak ≡ max (a .peak) (cond (leb p onPeak) reading 0)
-  pub refused : b .refused ≡ (a .refused || ltb 1000000 reading)
+-- The count b is a with one reading v more, of period p.
+pub record Added (a : Count) (p v : ℕ) (b : Count) : Type 0 where
+  pub critical : b .critical ≡ a .critical + cond (eqb p critical) v 0
+  pub onpeak : b .onpeak ≡ a .onpeak + cond (eqb p onPeak) v 0
+  pub offpeak : b .offpeak ≡ a .offpeak + cond (eqb p offPeak) v 0
+  pub discount : b .discount ≡ a .discount + cond (eqb p discount) v 0
+  pub peak : b .peak ≡ max (a .peak) (cond (isPeak p) v 0)
+  pub above : b .above ≡ (a .above || ltb readingLimit v)
 
 -- The count a is that of the first n days.
-pub record Counted (m x : ℕ) (r : List ℕ) (n : ℕ) (a : Count) : Type 0 where
-  pub critical : a .critical ≡ daysSum m x r critical n
-  pub onpeak : a .onpeak ≡ daysSum m x r onPeak n
-  pub offpeak : a .offpeak ≡ daysSum m x r offPeak n
-  pub discount : a .discount ≡ daysSum m x r discount n
-  pub peak : a .peak ≡ daysPeak m x r n
-  pub refused : a .refused ≡ aboveLimit r (readingsThrough m n)
+pub record Counted (schedule : List ℕ) (m x : ℕ) (r : List ℕ) (n : ℕ) (a : Count) : Type 0 where
+  pub critical : a .critical ≡ daysSum schedule m x r critical n
+  pub onpeak : a .onpeak ≡ daysSum schedule m x r onPeak n
+  pub offpeak : a .offpeak ≡ daysSum schedule m x r offPeak n
+  pub discount : a .discount ≡ daysSum schedule m x r discount n
+  pub peak : a .peak ≡ daysPeak schedule m x r n
+  pub above : a .above ≡ someAbove r (readingsThrough m n)

@@ -6,13 +6,13 @@ use Prim.Native.Nat.{ℕ, _+_, _-_, _*_}
 use lib.Dec.{eqb, ltb}
 use lib.ListN.{take, drop}
 use denote.Ref.{RefT, ptr, now}
-use Rattle.calendar.specs.Calendar.{daysIn, dayLength, readingsThrough}
+use Rattle.calendar.specs.Calendar.{lastMonth, daysIn, dayLength, readingsThrough}
 use Rattle.registers.specs.Registers.{lengthRefused}
 
 -- "exactly when the month is above 1199, the day isn't in the month, a register has the wrong length, or the number isn't 0 or 1"
-unfoldable pub noView : List ℕ → List ℕ → ℕ → ℕ → ℕ → Bool
-noView delivered received m d k =
-    ltb 1199 m || (ltb d 1 || ltb (daysIn m) d) || (lengthRefused m delivered || lengthRefused m received) || ltb 1 k
+unfoldable pub emptyView : List ℕ → List ℕ → ℕ → ℕ → ℕ → Bool
+emptyView delivered received m d k =
+    ltb lastMonth m || (ltb d 1 || ltb (daysIn m) d) || (lengthRefused m delivered || lengthRefused m received) || ltb 1 k
 
 -- A part of a lent register: where it starts, and how many readings it has.
 pub record Part : Type 0 where
@@ -24,7 +24,7 @@ pub record Part : Type 0 where
 -- delivered register".
 unfoldable pub viewOf : RefT (List ℕ) → RefT (List ℕ) → ℕ → ℕ → ℕ → Part
 viewOf delivered received m d k =
-    cond (noView (now delivered) (now received) m d k)
+    cond (emptyView (now delivered) (now received) m d k)
     (record { register = delivered; start = 0; count = 0 })
     (record { register = cond (eqb k 0) delivered received; start = readingsThrough m (d - 1); count = dayLength m d })
 

@@ -2,32 +2,25 @@
 ghost use mathlib.Core.Path.{_≡_};
 ghost use mathlib.Core.Bool.{cond, _||_};
 ghost use Prim.Native.Nat.{_+_, _<_, _≤_, max};
-ghost use lib.Dec.{eqb, leb, ltb};
+ghost use lib.Dec.{eqb, ltb};
 ghost use lib.ListN.{length};
 ghost use Rattle.calendar.specs.Calendar.{daysIn, readingsThrough, monthLength};
-ghost use Rattle.hours.specs.Hours.{onPeak};
-ghost use Rattle.registers.specs.Registers.{tallied};
-ghost use Rattle.registers.specs.DayView.{noView, viewOf, IsPart};
+ghost use Rattle.hours.specs.Hours.{isPeak};
+ghost use Rattle.registers.specs.Registers.{readingLimit, tallyOf};
+ghost use Rattle.registers.specs.DayView.{emptyView, viewOf, IsPart};
 ghost use Rattle.registers.specs.Counting.{Room, Added, Counted};
 use hours::ByPeriod;
-use hours::DayHours;
 
 // The largest reading that is accepted, in Wh.
 const READING_LIMIT: u32 = 1_000_000;
 
-// December 2099.
-const LAST_MONTH: u32 = 1199;
-
-// All that a bill reads from one register: the sums by period, the demand in W, and whether a reading is above the limit.
+// All that a bill reads from one register: whether its length is wrong or a reading above the limit, the sums by period, and
+// the power in W that the demand line prices.
 pub struct Tally {
+    pub wronglength: bool,
+    pub abovelimit: bool,
     pub sums: ByPeriod,
-    pub demand: u64,
-    pub refused: bool,
-}
-
-pub enum Tallied {
-    WrongLength,
-    Readings(Tally),
+    pub power: u64,
 }
 
 // What the readings so far come to: sums by period, the largest in periods 0 and 1, and whether one is above the limit.
@@ -37,7 +30,7 @@ struct Count {
     offpeak: u64,
     discount: u64,
     peak: u32,
-    refused: bool,
+    above: bool,
 }
 
 // The amount where the period is the one wanted, else 0.
@@ -48,39 +41,68 @@ fn in_period(period: u8, wanted: u8, amount: u32) -> u64
     if period == wanted { amount as u64 } else { 0 }
 }
 
-// The larger of a peak and a reading, where the reading is in period 0 or 1.
-fn with_peak(peak: u32, period: u8, reading: u32) -> u32
-    ensures { λ r. ⌜ r ≡ max peak (cond (leb period onPeak) reading 0) ⌝ }
+// The reading where its period is 0 or 1, else 0.
+fn peak_reading(period: u8, reading: u32) -> u32
+    ensures { λ r. ⌜ r ≡ cond (isPeak period) reading 0 ⌝ }
 {
-    if hours::ON_PEAK < period {
-        return peak;
-    }
-    if reading < peak { peak } else { reading }
+    if period <= hours::ON_PEAK { reading } else { 0 }
+}
+
+// The larger of two readings.
+fn larger(a: u32, b: u32) -> u32
+    ensures { λ r. ⌜ r ≡ max a b ⌝ }
+{
+    if a < b { b } else { a }
 }
 
 // Whether a reading, or one before it, is above the limit.
-fn with_limit(refused: bool, reading: u32) -> bool
-    ensures { λ r. ⌜ r ≡ (refused || ltb 1000000 reading) ⌝ }
+fn some_above(before: bool, reading: u32) -> bool
+    ensures { λ r. ⌜ r ≡ (before || ltb readingLimit reading) ⌝ }
 {
-    if refused {
+    if before {
         return true;
     }
     READING_LIMIT < reading
 }
 
 impl Count {
-    // The count with one reading more.
+    // The count with one reading more. Most readings are off-peak or discount, and their runs are long: these tests come first.
     fn add(self, period: u8, reading: u32) -> Count
         requires { ⌜ Room self ⌝ }
         ensures { λ r. ⌜ Added self period reading r ⌝ }
     {
+        let above = some_above(self.above, reading);
+        if period == hours::OFF_PEAK {
+            let offpeak = self.offpeak + reading as u64;
+            return Count {
+                critical: self.critical,
+                onpeak: self.onpeak,
+                offpeak,
+                discount: self.discount,
+                peak: self.peak,
+                above,
+            };
+        }
+        if period == hours::DISCOUNT {
+            let discount = self.discount + reading as u64;
+            return Count {
+                critical: self.critical,
+                onpeak: self.onpeak,
+                offpeak: self.offpeak,
+                discount,
+                peak: self.peak,
+                above,
+            };
+        }
+        let critical = self.critical + in_period(period, hours::CRITICAL, reading);
+        let onpeak = self.onpeak + in_period(period, hours::ON_PEAK, reading);
         Count {
-            critical: self.critical + in_period(period, hours::CRITICAL, reading),
-            onpeak: self.onpeak + in_period(period, hours::ON_PEAK, reading),
-            offpeak: self.offpeak + in_period(period, hours::OFF_PEAK, reading),
-            discount: self.discount + in_period(period, hours::DISCOUNT, reading),
-            peak: with_peak(self.peak, period, reading),
-            refused: with_limit(self.refused, reading),
+            critical,
+            onpeak,
+            offpeak: self.offpeak,
+            discount: self.discount,
+            peak: larger(self.peak, peak_reading(period, reading)),
+            above,
         }
     }
 }
@@ -88,35 +110,38 @@ impl Count {
 // The count with the readings of one day more: those of the day after the first days, which start at the place given.
 fn count_day(
     count: Count,
+    schedule: &[u8; 384],
     register: &[u32],
     month: u32,
     critical_days: u32,
     before: u32,
     start: usize,
 ) -> Count
-    requires { ⌜ Counted month «critical_days» (now register) before count ⌝ }
+    requires { ⌜ Counted (now schedule) month «critical_days» (now register) before count ⌝ }
     requires { ⌜ before < daysIn month ⌝ }
     requires { ⌜ start ≡ readingsThrough month before ⌝ }
     requires { ⌜ length (now register) ≡ monthLength month ⌝ }
-    ensures { λ r. ⌜ Counted month «critical_days» (now (register .entry)) (before + 1) r ⌝ }
+    ensures { λ r. ⌜ Counted (now (schedule .entry)) month «critical_days» (now (register .entry)) (before + 1) r ⌝ }
 {
     let day = before + 1;
-    let hours = hours::day_hours(month, day, critical_days);
+    let day_hours = hours::day_hours(month, day, critical_days);
+    let row = day_hours.row;
     let length = calendar::day_length(month, day);
     let mut so_far = count;
-    let mut reading = 0;
-    while reading < length {
-        let quarter = calendar::quarter_of(month, day, reading);
-        so_far = so_far.add(hours::period(hours, quarter), register[start + reading]);
-        reading += 1;
+    let mut place = 0;
+    while place < length {
+        let quarter = calendar::quarter_of(month, day, place);
+        let period = hours::period_on(day_hours, schedule[row + quarter]);
+        so_far = so_far.add(period, register[start + place]);
+        place += 1;
     }
     so_far
 }
 
 // The count of a whole month.
-fn count_month(register: &[u32], month: u32, critical_days: u32) -> Count
+fn count_month(schedule: &[u8; 384], register: &[u32], month: u32, critical_days: u32) -> Count
     requires { ⌜ length (now register) ≡ monthLength month ⌝ }
-    ensures { λ r. ⌜ Counted month «critical_days» (now (register .entry)) (daysIn month) r ⌝ }
+    ensures { λ r. ⌜ Counted (now (schedule .entry)) month «critical_days» (now (register .entry)) (daysIn month) r ⌝ }
 {
     let days = calendar::days_in(month);
     let mut count = Count {
@@ -125,12 +150,20 @@ fn count_month(register: &[u32], month: u32, critical_days: u32) -> Count
         offpeak: 0,
         discount: 0,
         peak: 0,
-        refused: false,
+        above: false,
     };
     let mut start = 0;
     let mut before = 0;
     while before < days {
-        count = count_day(count, register, month, critical_days, before, start);
+        count = count_day(
+            count,
+            schedule,
+            register,
+            month,
+            critical_days,
+            before,
+            start,
+        );
         start += calendar::day_length(month, before + 1);
         before += 1;
     }
@@ -138,30 +171,42 @@ fn count_month(register: &[u32], month: u32, critical_days: u32) -> Count
 }
 
 // All that a bill reads from one register.
-pub fn tally_of(register: &[u32], month: u32, critical_days: u32) -> Tallied
-    ensures { λ r. ⌜ r ≡ tallied month «critical_days» (now (register .entry)) ⌝ }
+pub fn tally_of(schedule: &[u8; 384], register: &[u32], month: u32, critical_days: u32) -> Tally
+    ensures { λ r. ⌜ r ≡ tallyOf (now (schedule .entry)) month «critical_days» (now (register .entry)) ⌝ }
 {
     if register.len() != calendar::month_length(month) {
-        return Tallied::WrongLength;
+        return Tally {
+            wronglength: true,
+            abovelimit: false,
+            sums: ByPeriod {
+                critical: 0,
+                onpeak: 0,
+                offpeak: 0,
+                discount: 0,
+            },
+            power: 0,
+        };
     }
-    let count = count_month(register, month, critical_days);
-    Tallied::Readings(Tally {
+    let count = count_month(schedule, register, month, critical_days);
+    let power = 4 * count.peak as u64;
+    Tally {
+        wronglength: false,
+        abovelimit: count.above,
         sums: ByPeriod {
             critical: count.critical,
             onpeak: count.onpeak,
             offpeak: count.offpeak,
             discount: count.discount,
         },
-        demand: 4 * count.peak as u64,
-        refused: count.refused,
-    })
+        power,
+    }
 }
 
 // Whether the day view is empty: no such month, day or register, or a register of another length than the month's.
-fn no_view(delivered: &[u32], received: &[u32], month: u32, day: u32, number: u32) -> bool
-    ensures { λ r. ⌜ r ≡ noView (now (delivered .entry)) (now (received .entry)) month day number ⌝ }
+fn empty_view(delivered: &[u32], received: &[u32], month: u32, day: u32, number: u32) -> bool
+    ensures { λ r. ⌜ r ≡ emptyView (now (delivered .entry)) (now (received .entry)) month day number ⌝ }
 {
-    if LAST_MONTH < month {
+    if calendar::LAST_MONTH < month {
         return true;
     }
     if day < 1 {
@@ -190,7 +235,7 @@ pub fn day_view<'a>(
 ) -> &'a [u32]
     ensures { λ r. ⌜ IsPart (viewOf (delivered .entry) (received .entry) month day number) r ⌝ }
 {
-    if no_view(delivered, received, month, day, number) {
+    if empty_view(delivered, received, month, day, number) {
         return &delivered[0..0];
     }
     let start = calendar::readings_through(month, day - 1);

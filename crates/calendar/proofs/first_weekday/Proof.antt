@@ -1,9 +1,7 @@
 -- `calendar::first_weekday` is the closed form of `Weekday`, which follows the definition month by month.
 use borrow.Author.Needs.{needs}
 use mathlib.Core.Path.{sym}
-use native.Mathlib.Omega.{arith}
-use Rattle.calendar.proofs.Weekday.{count, leapDays, closed, fromMarch-le}
-use Prim.Native.Nat.{_+_, _%_}
+use Rattle.calendar.proofs.Weekday.{count, leapDays, closed}
 use Rattle.calendar.proofs.first_weekday.Statement.{statement}
 use Rattle.calendar.proofs.first_weekday.Tie as tie
 
@@ -34,11 +32,11 @@ add-days c = search needs
 mul-days-2 : tie.Need-mul-days-2
 mul-days-2 c = search needs
 
-array-read-days : tie.Need-array-read-days
-array-read-days c = search needs
-
 add-days-2 : tie.Need-add-days-2
-add-days-2 c = omega (arith, fromMarch-le ((c .args .month + 10) % 12) (omega arith))
+add-days-2 c = search needs
+
+add-days-3 : tie.Need-add-days-3
+add-days-3 c = search needs
 
 cast-result : tie.Need-cast-result
 cast-result c = search needs
@@ -60,7 +58,7 @@ first-weekday-spec =
     mul-days
     add-days
     mul-days-2
-    array-read-days
     add-days-2
+    add-days-3
     cast-result
     returns)

@@ -12,17 +12,17 @@ use Rattle.registers.proofs.count_month.Statement.{statement}
 use Rattle.registers.proofs.count_month.Tie as tie
 
 abbrev Inv-loop : tie.InvT-loop
-Inv-loop register month critical-days days count₀ start₀ before₀ count start before =
-    (before ≤ days) × (start ≡ readingsThrough month before) × Counted month critical-days register before count
+Inv-loop schedule register month critical-days days count₀ start₀ before₀ count start before =
+    (before ≤ days) × (start ≡ readingsThrough month before) × Counted schedule month critical-days register before count
 
 abbrev μ-loop : tie.MeasureT-loop
-μ-loop register month critical-days days count₀ start₀ before₀ count start before = days - before
+μ-loop schedule register month critical-days days count₀ start₀ before₀ count start before = days - before
 
 days-in-requires : tie.Need-days-in-requires Inv-loop μ-loop
 days-in-requires c κs = search needs
 
 loop-holds : tie.Need-loop-holds Inv-loop μ-loop
-loop-holds c = (omega arith, omega (arith, through-none (c .before .before .args .month)), month-start _ _ _)
+loop-holds c = (omega arith, omega (arith, through-none (c .before .before .args .month)), month-start _ _ _ _)
 
 count-day-requires : tie.Need-count-day-requires Inv-loop μ-loop
 count-day-requires c κs = (
@@ -48,7 +48,7 @@ add-start c =
       arith,
       c .day-length .ensures,
       monthLength-le (st .args .month),
-      in-month (st .args .month) (st .args .critical-days) (st .args .register .now) (lp .loop .before)
+      in-month (st .args .schedule .now) (st .args .month) (st .args .critical-days) (st .args .register .now) (lp .loop .before)
           (dayLength (st .args .month) (lp .loop .before + 1))
           h
           (le-refl _),

@@ -9,20 +9,20 @@ use mathlib.Core.Path.{_≡_, sym, _∙_}
 use mathlib.Core.Bool.{false}
 use borrow.Author.Tests.{eq-eqb, ne-eqb}
 use Rattle.calendar.proofs.Laws.{monthLength-le}
-use Rattle.registers.specs.DayView.{noView}
+use Rattle.registers.specs.DayView.{emptyView}
 use Rattle.registers.proofs.day_view.Statement.{statement}
 use Rattle.registers.proofs.day_view.Tie as tie
 
 -- Past the first test there is a view, and its readings end within the month.
 some-view : (c : tie.Else1) →
-    noView
+    emptyView
     (c .before .before .before .before .args .delivered .now)
     (c .before .before .before .before .args .received .now)
     (c .before .before .before .before .args .month)
     (c .before .before .before .before .args .day)
     (c .before .before .before .before .args .number)
     ≡ false
-some-view c = sym (c .before .no-view .ensures) ∙ c .if1 .left
+some-view c = sym (c .before .empty-view .ensures) ∙ c .if1 .left
 
 within : (c : tie.After-day-length) →
     c .before .readings-through .result + c .day-length .result
@@ -36,8 +36,8 @@ within c =
       day-end (c .before .before .before .before .before .before .args .month) (c .before .before .before .before .before .before .args .day) (seen .first) (seen .last),
     )
 
-no-view-requires : tie.Need-no-view-requires
-no-view-requires c κs = search needs
+empty-view-requires : tie.Need-empty-view-requires
+empty-view-requires c κs = search needs
 
 sub-result : tie.Need-sub-result
 sub-result c = search needs
@@ -49,7 +49,7 @@ part-result-end : tie.Need-part-result-end
 part-result-end c = search needs
 
 returns : tie.Need-returns
-returns c = empty-part _ _ _ _ _ _ (sym (c .before .before .no-view .ensures) ∙ c .before .if1 .taken) refl refl
+returns c = empty-part _ _ _ _ _ _ (sym (c .before .before .empty-view .ensures) ∙ c .before .if1 .taken) refl refl
 
 sub-readings-through : tie.Need-sub-readings-through
 sub-readings-through c = viewed _ _ _ _ _ (some-view c) .first
@@ -115,7 +115,7 @@ pub day-view-spec : {M : Type 1} → statement M
 day-view-spec =
     tie.close
     (tie.spec
-    no-view-requires
+    empty-view-requires
     sub-result
     part-result-start
     part-result-end

@@ -1,24 +1,24 @@
--- `registers::no_view` makes the definition's tests in turn.
+-- `registers::empty_view` makes the definition's tests in turn.
 use borrow.Author.Needs.{needs}
 use borrow.Author.Tests.{lt-ltb, le-ltb}
-use Rattle.registers.specs.DayView.{noView}
+use Rattle.registers.specs.DayView.{emptyView}
 use Rattle.registers.proofs.Laws.{wrong-length, right-length}
-use Rattle.registers.proofs.no_view.Statement.{statement}
-use Rattle.registers.proofs.no_view.Tie as tie
+use Rattle.registers.proofs.empty_view.Statement.{statement}
+use Rattle.registers.proofs.empty_view.Tie as tie
 
 returns : tie.Need-returns
-unfolding noView
+unfolding emptyView
 returns c = simp (lt-ltb _ _ (c .if1 .taken))
 
 returns-2 : tie.Need-returns-2
-unfolding noView
+unfolding emptyView
 returns-2 c = simp (le-ltb _ _ (c .before .if1 .left), lt-ltb _ _ (c .if2 .taken))
 
 days-in-requires : tie.Need-days-in-requires
 days-in-requires c κs = search needs
 
 returns-3 : tie.Need-returns-3
-unfolding noView
+unfolding emptyView
 returns-3 c =
     simp (
       le-ltb _ _ (c .before .before .before .if1 .left),
@@ -31,7 +31,7 @@ month-length-requires : tie.Need-month-length-requires
 month-length-requires c κs = search needs
 
 returns-4 : tie.Need-returns-4
-unfolding noView
+unfolding emptyView
 returns-4 c =
     simp (
       le-ltb _ _ (c .before .before .before .before .before .if1 .left),
@@ -42,7 +42,7 @@ returns-4 c =
     )
 
 returns-5 : tie.Need-returns-5
-unfolding noView
+unfolding emptyView
 returns-5 c =
     simp (
       le-ltb _ _ (c .before .before .before .before .before .before .if1 .left),
@@ -54,7 +54,7 @@ returns-5 c =
     )
 
 returns-6 : tie.Need-returns-6
-unfolding noView
+unfolding emptyView
 returns-6 c =
     simp (
       le-ltb _ _ (c .before .before .before .before .before .before .if1 .left),
@@ -65,8 +65,8 @@ returns-6 c =
       right-length _ (c .before .before .before .before .before .before .before .before .before .args .received .now) (c .before .before .month-length .ensures) (c .if5 .left),
     )
 
-pub no-view-spec : {M : Type 1} → statement M
-no-view-spec =
+pub empty-view-spec : {M : Type 1} → statement M
+empty-view-spec =
     tie.close
     (tie.spec
     returns
