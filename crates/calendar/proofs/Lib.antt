@@ -1,3 +1,4 @@
 pub mod Below
+pub mod Booleans
 pub mod Laws
 pub mod Weekday

@@ -2,16 +2,20 @@
 use mathlib.Core.Path.{_≡_, refl, ap, _∙_, sym}
 use mathlib.Core.Bool.{Bool, true, false, cond, _||_}
 use mathlib.Core.List.{List}
+use mathlib.Core.Logic.{⊎-elim}
 use Prim.Native.Nat.{ℕ, zero, suc, _+_, _*_, _≤_, _<_, max}
+use native.Mathlib.Nat.{le-of-suc-le-suc, eq-or-lt-of-le}
 use native.Mathlib.Numerals.{add-one}
 use native.Mathlib.Omega.{arith}
-use borrow.Author.Tests.{eq-eqb, ne-eqb}
+use borrow.Author.Tests.{eq-eqb, ne-eqb, ltb-false, leb-true, leb-false}
 use lib.Dec.{eqb, leb, ltb}
-use lib.ListN.{length, getD}
+use lib.ListN.{length, getD, List·getD-eq-default}
 use Rattle.calendar.specs.Calendar.{daysIn, dayLength, readingsThrough, monthLength}
-use Rattle.calendar.proofs.Laws.{through-none, through-more}
-use Rattle.hours.specs.Hours.{isPeak, periodOf}
-use Rattle.registers.specs.Registers.{reading, daySum, daysSum, sumOf, dayPeak, daysPeak, demandPower, readingLimit, someAbove, readingRefused, lengthRefused}
+use Rattle.calendar.proofs.Booleans.{or-neither}
+use Rattle.calendar.proofs.Laws.{monthLength-is, monthLength-le}
+use Rattle.hours.specs.Hours.{isPeak, periodOf, byPeriod}
+use Rattle.registers.specs.declared.Tally.{Tally}
+use Rattle.registers.specs.Registers.{reading, daySum, daysSum, sumOf, dayPeak, daysPeak, demandPower, readingLimit, someAbove, readingRefused, lengthRefused, tallyOf}
 
 -- A reading is what stands at its place.
 pub reading-is : (r : List ℕ) (i : ℕ) → reading r i ≡ getD r i 0
@@ -90,3 +94,70 @@ wrong-length m r e h = rw (ne-eqb (length r) (monthLength m) (λ f. h (f ∙ sym
 pub right-length : (m : ℕ) (r : List ℕ) {n : ℕ} → n ≡ monthLength m → length r ≡ n → lengthRefused m r ≡ false
 unfolding lengthRefused
 right-length m r e h = rw (eq-eqb (length r) (monthLength m) (h ∙ e))
+
+-- Where no reading is refused, each is within the limit: those past the register's end count 0.
+within-first : (r : List ℕ) (n i : ℕ) → someAbove r n ≡ false → i < n → reading r i ≤ readingLimit
+unfolding someAbove
+within-first r zero i e h = absurd (omega arith)
+within-first r (suc n) i e h =
+    let both : (someAbove r n ≡ false) × (ltb readingLimit (reading r n) ≡ false) = or-neither (someAbove r n) (ltb readingLimit (reading r n)) e in
+    ⊎-elim
+    (λ same. rw same (ltb-false _ _ (both .1)))
+    (λ less. within-first r n i (both .0) less)
+    (eq-or-lt-of-le (le-of-suc-le-suc h))
+
+pub readings-within : (r : List ℕ) → readingRefused r ≡ false → (i : ℕ) → reading r i ≤ readingLimit
+unfolding readingRefused
+readings-within r e i = by (leb (length r) i) refl
+  where
+    by : (b : Bool) → leb (length r) i ≡ b → reading r i ≤ readingLimit
+    by true past = rw (reading-is r i, List·getD-eq-default r 0 (leb-true _ _ past)) (omega arith)
+    by false reached = within-first r (length r) i e (leb-false _ _ reached)
+
+-- So a month's sum and the demand's power have bounds.
+pub sum-within : (schedule : List ℕ) (m x : ℕ) (r : List ℕ) → readingRefused r ≡ false → (p : ℕ) → sumOf schedule m x r p ≤ 2976000000
+unfolding sumOf
+sum-within schedule m x r e p =
+    omega (
+      arith,
+      days-sum-le schedule m x r readingLimit (readings-within r e) p (daysIn m),
+      monthLength-is m,
+      monthLength-le m,
+    )
+
+module _ (schedule : List ℕ) (m x : ℕ) (r : List ℕ) (bound : ℕ) (within : (i : ℕ) → reading r i ≤ bound) where
+  day-peak-le : (n j : ℕ) → dayPeak schedule m x r n j ≤ bound
+  unfolding dayPeak
+  day-peak-le n zero = omega arith
+  day-peak-le n (suc j) = omega (arith, day-peak-le n j, part-le (isPeak (periodOf schedule m x (suc n) j)) (reading r (readingsThrough m n + j)) bound (within _))
+
+  days-peak-le : (n : ℕ) → daysPeak schedule m x r n ≤ bound
+  unfolding daysPeak
+  days-peak-le zero = omega arith
+  days-peak-le (suc n) = omega (arith, days-peak-le n, day-peak-le n (dayLength m (suc n)))
+
+pub power-within : (schedule : List ℕ) (m x : ℕ) (r : List ℕ) → readingRefused r ≡ false → demandPower schedule m x r ≤ 4000000
+unfolding demandPower
+power-within schedule m x r e = omega (arith, days-peak-le schedule m x r readingLimit (readings-within r e) (daysIn m))
+
+-- A tally's fields.
+module _ (schedule : List ℕ) (m x : ℕ) (r : List ℕ) where
+  pub tally-length : tallyOf schedule m x r .wronglength ≡ lengthRefused m r
+  unfolding tallyOf
+  tally-length = by (lengthRefused m r) refl
+    where
+      by : (b : Bool) → lengthRefused m r ≡ b → tallyOf schedule m x r .wronglength ≡ lengthRefused m r
+      by true e = rw e
+      by false e = rw e
+
+  pub tally-right : lengthRefused m r ≡ false →
+      _≡_ {A = Tally}
+      (tallyOf schedule m x r)
+      (record {
+        wronglength = false;
+        abovelimit = readingRefused r;
+        sums = byPeriod (sumOf schedule m x r);
+        power = demandPower schedule m x r;
+      })
+  unfolding tallyOf
+  tally-right e = rw e

@@ -10,13 +10,10 @@ use lib.Dec.{eqb, ltb}
 use lib.ListN.{length, take, drop}
 use denote.Ref.{RefT, ptr, now}
 use Rattle.calendar.specs.Calendar.{lastMonth, daysIn, dayLength, readingsThrough, monthLength}
+use Rattle.calendar.proofs.Booleans.{or-neither}
 use Rattle.calendar.proofs.Laws.{through-more, through-mono, monthLength-is}
 use Rattle.registers.specs.Registers.{lengthRefused}
 use Rattle.registers.specs.DayView.{emptyView, Part, viewOf, IsPart}
-
-or-no : (a b : Bool) → (a || b) ≡ false → (a ≡ false) × (b ≡ false)
-or-no true b e = absurd (let z : _≡_ {A = ℕ} 0 1 = cc in omega arith)
-or-no false b e = (refl, e)
 
 pub length-right : (m : ℕ) (r : List ℕ) → lengthRefused m r ≡ false → length r ≡ monthLength m
 unfolding lengthRefused
@@ -33,11 +30,11 @@ pub record Viewed (delivered received : List ℕ) (m d k : ℕ) : Type 0 where
 pub viewed : (delivered received : List ℕ) (m d k : ℕ) → emptyView delivered received m d k ≡ false → Viewed delivered received m d k
 unfolding emptyView
 viewed xs ys m d k e =
-    let (front, number) = or-no (ltb lastMonth m || (ltb d 1 || ltb (daysIn m) d) || (lengthRefused m xs || lengthRefused m ys)) (ltb 1 k) e in
-    let (day, lengths) = or-no (ltb lastMonth m || (ltb d 1 || ltb (daysIn m) d)) (lengthRefused m xs || lengthRefused m ys) front in
-    let (_, days) = or-no (ltb lastMonth m) (ltb d 1 || ltb (daysIn m) d) day in
-    let (first, last) = or-no (ltb d 1) (ltb (daysIn m) d) days in
-    let (one, other) = or-no (lengthRefused m xs) (lengthRefused m ys) lengths in
+    let (front, number) = or-neither (ltb lastMonth m || (ltb d 1 || ltb (daysIn m) d) || (lengthRefused m xs || lengthRefused m ys)) (ltb 1 k) e in
+    let (day, lengths) = or-neither (ltb lastMonth m || (ltb d 1 || ltb (daysIn m) d)) (lengthRefused m xs || lengthRefused m ys) front in
+    let (_, days) = or-neither (ltb lastMonth m) (ltb d 1 || ltb (daysIn m) d) day in
+    let (first, last) = or-neither (ltb d 1) (ltb (daysIn m) d) days in
+    let (one, other) = or-neither (lengthRefused m xs) (lengthRefused m ys) lengths in
     record {
       first = ltb-false _ _ first;
       last = ltb-false _ _ last;

@@ -1,0 +1,3 @@
+pub mod Laws
+mod Lines
+pub mod Chart

@@ -1,0 +1,170 @@
+// Terms and price lists of document 01, and the refusals that they alone decide.
+ghost use mathlib.Core.Path.{_≡_};
+ghost use mathlib.Core.Bool.{_||_};
+ghost use mathlib.Core.List.{[], _∷_};
+ghost use Rattle.tariff.specs.Tariff.{priceLimit, amountLimit, someOver, pricesRise, pricesRefused, nameplateOf, classLimit};
+ghost use Rattle.tariff.specs.Tariff.{capacityRefused, bridgeRefused, isBridge, isBusiness};
+use hours::ByPeriod;
+
+// The banked rider (Rider NM) and the bridge rider (Rider NMB).
+pub enum Rider {
+    Banked,
+    Bridge,
+}
+
+pub enum Class {
+    Home,
+    Business,
+}
+
+// Terms of an account: the nameplate and the demand limit are in W.
+pub struct Terms {
+    pub rider: Rider,
+    pub class: Class,
+    pub nameplate: u64,
+    pub limit: u64,
+    pub assisted: bool,
+}
+
+// Prices are in hundred-thousandths of a dollar per kWh or per kW, basic and minimum in cents.
+pub struct PriceList {
+    pub energy: ByPeriod,
+    pub demand: u64,
+    pub standby: u64,
+    pub bypass: u64,
+    pub credit: u64,
+    pub distribution: u64,
+    pub basic: u64,
+    pub minimum: u64,
+}
+
+const PRICE_LIMIT: u64 = 1_000_000;
+
+const AMOUNT_LIMIT: u64 = 1_000_000;
+
+const HOME_LIMIT: u64 = 20_000;
+
+const BUSINESS_LIMIT: u64 = 1_000_000;
+
+// The nameplate that each rule speaks of, in W.
+pub fn nameplate_of(terms: Terms) -> u64
+    ensures { λ r. ⌜ r ≡ nameplateOf terms ⌝ }
+{
+    terms.nameplate
+}
+
+pub fn is_bridge(rider: Rider) -> bool
+    ensures { λ r. ⌜ r ≡ isBridge rider ⌝ }
+{
+    match rider {
+        Rider::Banked => false,
+        Rider::Bridge => true,
+    }
+}
+
+pub fn is_business(class: Class) -> bool
+    ensures { λ r. ⌜ r ≡ isBusiness class ⌝ }
+{
+    match class {
+        Class::Home => false,
+        Class::Business => true,
+    }
+}
+
+// The largest nameplate of a class, in W.
+pub fn class_limit(class: Class) -> u64
+    ensures { λ r. ⌜ r ≡ classLimit class ⌝ }
+{
+    match class {
+        Class::Home => HOME_LIMIT,
+        Class::Business => BUSINESS_LIMIT,
+    }
+}
+
+// Whether an energy price is above its limit or above the one before. The first is the dearest where none is above the one before.
+fn energy_refused(energy: ByPeriod) -> bool
+    ensures { λ r. ⌜ r ≡ (someOver priceLimit (energy .critical ∷ energy .onpeak ∷ energy .offpeak ∷ energy .discount ∷ []) || pricesRise energy) ⌝ }
+{
+    if PRICE_LIMIT < energy.critical {
+        return true;
+    }
+    if energy.critical < energy.onpeak {
+        return true;
+    }
+    if energy.onpeak < energy.offpeak {
+        return true;
+    }
+    energy.offpeak < energy.discount
+}
+
+// Whether one of the other five prices is above its limit.
+fn rates_refused(prices: PriceList) -> bool
+    ensures { λ r. ⌜ r ≡ someOver priceLimit (prices .demand ∷ prices .standby ∷ prices .bypass ∷ prices .credit ∷ prices .distribution ∷ []) ⌝ }
+{
+    if PRICE_LIMIT < prices.demand {
+        return true;
+    }
+    if PRICE_LIMIT < prices.standby {
+        return true;
+    }
+    if PRICE_LIMIT < prices.bypass {
+        return true;
+    }
+    if PRICE_LIMIT < prices.credit {
+        return true;
+    }
+    PRICE_LIMIT < prices.distribution
+}
+
+// Whether basic or minimum is above its limit.
+fn amounts_refused(prices: PriceList) -> bool
+    ensures { λ r. ⌜ r ≡ someOver amountLimit (prices .basic ∷ prices .minimum ∷ []) ⌝ }
+{
+    if AMOUNT_LIMIT < prices.basic {
+        return true;
+    }
+    AMOUNT_LIMIT < prices.minimum
+}
+
+// Whether a price list is refused (number 4).
+pub fn prices_refused(prices: PriceList) -> bool
+    ensures { λ r. ⌜ r ≡ pricesRefused prices ⌝ }
+{
+    let energy = prices.energy;
+    if energy_refused(energy) {
+        return true;
+    }
+    if rates_refused(prices) {
+        return true;
+    }
+    amounts_refused(prices)
+}
+
+// Whether a nameplate is refused (number 5).
+pub fn capacity_refused(terms: Terms) -> bool
+    ensures { λ r. ⌜ r ≡ capacityRefused terms ⌝ }
+{
+    let class = terms.class;
+    let nameplate = nameplate_of(terms);
+    if nameplate < 1 {
+        return true;
+    }
+    if terms.limit < nameplate {
+        return true;
+    }
+    class_limit(class) < nameplate
+}
+
+// Whether the rider is refused (number 6).
+pub fn bridge_refused(terms: Terms) -> bool
+    ensures { λ r. ⌜ r ≡ bridgeRefused terms ⌝ }
+{
+    let rider = terms.rider;
+    let class = terms.class;
+    let bridge = is_bridge(rider);
+    let business = is_business(class);
+    if bridge {
+        return business;
+    }
+    false
+}

@@ -1,0 +1,15 @@
+//! Document 01 in plain Rust, one file per concept, each using only those above it.
+
+#![forbid(unsafe_code)]
+
+pub mod calendar;
+pub mod hours;
+
+pub mod account;
+pub mod refusal;
+pub mod steps;
+
+pub mod calls;
+pub mod day_view;
+pub mod ledger;
+pub mod statement;

@@ -1,0 +1,109 @@
+//! Accounts and registers to start from.
+
+use harness::reference::account::{Account, Assisted, Bill, Class, PriceList, Rider, State, Terms};
+use harness::reference::calls::billing;
+
+// Months by their number: 12 × (year − 2000) + (month of the year − 1).
+pub const JANUARY_2000: u32 = 0;
+pub const FEBRUARY_2000: u32 = 1;
+pub const FEBRUARY_2001: u32 = 13;
+pub const MARCH_2001: u32 = 14;
+pub const APRIL_2001: u32 = 15;
+pub const MAY_2001: u32 = 16;
+pub const JUNE_2001: u32 = 17;
+pub const JULY_2001: u32 = 18;
+pub const DECEMBER_2099: u32 = 1199;
+
+// One quarter of each window.
+pub const OFF_PEAK: usize = 0;
+pub const DISCOUNT: usize = 4;
+pub const WINTER_ON_PEAK: usize = 68;
+pub const SUMMER_ON_PEAK: usize = 52;
+
+/// The terms of 01's example.
+pub fn home() -> Terms {
+    Terms {
+        rider: Rider::Banked,
+        class: Class::Home,
+        nameplate: 8_000,
+        demand_limit: 9_000,
+        assisted: Assisted::No,
+    }
+}
+
+/// The price list of 01's example.
+pub fn prices() -> PriceList {
+    PriceList {
+        energy: [30_000, 20_000, 10_000, 5_000],
+        basic: 1_400,
+        ..PriceList::default()
+    }
+}
+
+pub fn bridge_home() -> Terms {
+    Terms {
+        rider: Rider::Bridge,
+        ..home()
+    }
+}
+
+pub fn business(nameplate: u32) -> Terms {
+    Terms {
+        class: Class::Business,
+        nameplate,
+        demand_limit: nameplate,
+        ..home()
+    }
+}
+
+/// An open account with the example's terms and price list.
+pub fn open_account(next_month: u32) -> Account {
+    Account {
+        state: State::Open,
+        terms: home(),
+        price_list: prices(),
+        next_month,
+        carried: [0; 4],
+        standing: 0,
+    }
+}
+
+/// The two registers of a month.
+#[derive(Clone)]
+pub struct Registers {
+    pub delivered: Vec<u32>,
+    pub received: Vec<u32>,
+}
+
+impl Registers {
+    /// A month of so many days with every reading 0.
+    pub fn zeros(days: usize) -> Registers {
+        Registers {
+            delivered: vec![0; 96 * days],
+            received: vec![0; 96 * days],
+        }
+    }
+
+    pub fn deliver(mut self, day: usize, quarter: usize, wh: u32) -> Registers {
+        self.delivered[96 * (day - 1) + quarter] = wh;
+        self
+    }
+
+    pub fn receive(mut self, day: usize, quarter: usize, wh: u32) -> Registers {
+        self.received[96 * (day - 1) + quarter] = wh;
+        self
+    }
+}
+
+/// Bills the account's next month, which must be accepted.
+pub fn bill(account: Account, registers: &Registers, critical_days: u32) -> (Bill, Account) {
+    let (answer, after) = billing(
+        account,
+        account.next_month,
+        &registers.delivered,
+        &registers.received,
+        critical_days,
+    );
+    assert_eq!(answer.number, 0);
+    (answer.amounts, after)
+}
