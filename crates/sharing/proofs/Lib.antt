@@ -1,3 +1,2 @@
-pub mod Chart
 pub mod Laws
 pub mod Moves

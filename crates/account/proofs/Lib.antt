@@ -1,0 +1,4 @@
+pub mod Accepted
+pub mod Chart
+mod Rows
+mod Tallied

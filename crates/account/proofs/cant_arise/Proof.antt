@@ -1,0 +1,71 @@
+-- `account::cant_arise` makes the definition's tests in turn.
+use borrow.Author.Needs.{needs}
+use borrow.Author.Tests.{lt-ltb, le-ltb}
+use Rattle.account.specs.Refusals.{cantArise}
+use Rattle.account.proofs.cant_arise.Statement.{statement}
+use Rattle.account.proofs.cant_arise.Tie as tie
+
+some-over-requires : tie.Need-some-over-requires
+some-over-requires c κs = search needs
+
+returns : tie.Need-returns
+unfolding cantArise
+returns c = simp (← (c .before .some-over .ensures), c .if1 .taken)
+
+returns-2 : tie.Need-returns-2
+unfolding cantArise
+returns-2 c = simp (← (c .before .before .before .some-over .ensures), c .before .before .if1 .left, lt-ltb _ _ (c .if2 .taken))
+
+returns-3 : tie.Need-returns-3
+unfolding cantArise
+returns-3 c =
+    simp (
+      ← (c .before .before .before .before .before .some-over .ensures),
+      c .before .before .before .before .if1 .left,
+      le-ltb _ _ (c .before .before .if2 .left),
+      lt-ltb _ _ (c .if3 .taken),
+    )
+
+is-open-requires : tie.Need-is-open-requires
+is-open-requires c κs = search needs
+
+contents-refused-requires : tie.Need-contents-refused-requires
+contents-refused-requires c κs = search needs
+
+returns-4 : tie.Need-returns-4
+unfolding cantArise
+returns-4 c =
+    simp (
+      ← (c .before .before .before .before .before .before .before .before .some-over .ensures),
+      c .before .before .before .before .before .before .before .if1 .left,
+      le-ltb _ _ (c .before .before .before .before .before .if2 .left),
+      le-ltb _ _ (c .before .before .before .if3 .left),
+      ← (c .before .before .is-open .ensures),
+      c .before .if4 .taken,
+      c .contents-refused .ensures,
+    )
+
+returns-5 : tie.Need-returns-5
+unfolding cantArise
+returns-5 c =
+    simp (
+      ← (c .before .before .before .before .before .before .before .some-over .ensures),
+      c .before .before .before .before .before .before .if1 .left,
+      le-ltb _ _ (c .before .before .before .before .if2 .left),
+      le-ltb _ _ (c .before .before .if3 .left),
+      ← (c .before .is-open .ensures),
+      c .if4 .left,
+    )
+
+pub cant-arise-spec : {M : Type 1} → statement M
+cant-arise-spec =
+    tie.close
+    (tie.spec
+    some-over-requires
+    returns
+    returns-2
+    returns-3
+    is-open-requires
+    contents-refused-requires
+    returns-4
+    returns-5)

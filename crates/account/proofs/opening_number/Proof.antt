@@ -1,0 +1,122 @@
+-- `account::opening_number` asks rows 2 to 7 in turn.
+use borrow.Author.Needs.{needs}
+use borrow.Author.Tests.{lt-ltb, le-ltb}
+use Rattle.account.specs.Refusals.{openingNumber}
+use Rattle.account.proofs.opening_number.Statement.{statement}
+use Rattle.account.proofs.opening_number.Tie as tie
+
+is-open-requires : tie.Need-is-open-requires
+is-open-requires c κs = search needs
+
+returns : tie.Need-returns
+unfolding openingNumber
+returns c = simp (← (c .before .is-open .ensures), c .if1 .taken)
+
+is-unusable-requires : tie.Need-is-unusable-requires
+is-unusable-requires c κs = search needs
+
+returns-2 : tie.Need-returns-2
+unfolding openingNumber
+returns-2 c = simp (← (c .before .before .before .is-open .ensures), c .before .before .if1 .left, ← (c .before .is-unusable .ensures), c .if2 .taken)
+
+prices-refused-requires : tie.Need-prices-refused-requires
+prices-refused-requires c κs = search needs
+
+returns-3 : tie.Need-returns-3
+unfolding openingNumber
+returns-3 c =
+    simp (
+      ← (c .before .before .before .before .before .is-open .ensures),
+      c .before .before .before .before .if1 .left,
+      ← (c .before .before .before .is-unusable .ensures),
+      c .before .before .if2 .left,
+      ← (c .before .prices-refused .ensures),
+      c .if3 .taken,
+    )
+
+capacity-refused-requires : tie.Need-capacity-refused-requires
+capacity-refused-requires c κs = search needs
+
+returns-4 : tie.Need-returns-4
+unfolding openingNumber
+returns-4 c =
+    simp (
+      ← (c .before .before .before .before .before .before .before .is-open .ensures),
+      c .before .before .before .before .before .before .if1 .left,
+      ← (c .before .before .before .before .before .is-unusable .ensures),
+      c .before .before .before .before .if2 .left,
+      ← (c .before .before .before .prices-refused .ensures),
+      c .before .before .if3 .left,
+      ← (c .before .capacity-refused .ensures),
+      c .if4 .taken,
+    )
+
+bridge-refused-requires : tie.Need-bridge-refused-requires
+bridge-refused-requires c κs = search needs
+
+returns-5 : tie.Need-returns-5
+unfolding openingNumber
+returns-5 c =
+    simp (
+      ← (c .before .before .before .before .before .before .before .before .before .is-open .ensures),
+      c .before .before .before .before .before .before .before .before .if1 .left,
+      ← (c .before .before .before .before .before .before .before .is-unusable .ensures),
+      c .before .before .before .before .before .before .if2 .left,
+      ← (c .before .before .before .before .before .prices-refused .ensures),
+      c .before .before .before .before .if3 .left,
+      ← (c .before .before .before .capacity-refused .ensures),
+      c .before .before .if4 .left,
+      ← (c .before .bridge-refused .ensures),
+      c .if5 .taken,
+    )
+
+returns-6 : tie.Need-returns-6
+unfolding openingNumber
+returns-6 c =
+    simp (
+      ← (c .before .before .before .before .before .before .before .before .before .before .is-open .ensures),
+      c .before .before .before .before .before .before .before .before .before .if1 .left,
+      ← (c .before .before .before .before .before .before .before .before .is-unusable .ensures),
+      c .before .before .before .before .before .before .before .if2 .left,
+      ← (c .before .before .before .before .before .before .prices-refused .ensures),
+      c .before .before .before .before .before .if3 .left,
+      ← (c .before .before .before .before .capacity-refused .ensures),
+      c .before .before .before .if4 .left,
+      ← (c .before .before .bridge-refused .ensures),
+      c .before .if5 .left,
+      lt-ltb _ _ (c .if6 .taken),
+    )
+
+returns-7 : tie.Need-returns-7
+unfolding openingNumber
+returns-7 c =
+    simp (
+      ← (c .before .before .before .before .before .before .before .before .before .before .is-open .ensures),
+      c .before .before .before .before .before .before .before .before .before .if1 .left,
+      ← (c .before .before .before .before .before .before .before .before .is-unusable .ensures),
+      c .before .before .before .before .before .before .before .if2 .left,
+      ← (c .before .before .before .before .before .before .prices-refused .ensures),
+      c .before .before .before .before .before .if3 .left,
+      ← (c .before .before .before .before .capacity-refused .ensures),
+      c .before .before .before .if4 .left,
+      ← (c .before .before .bridge-refused .ensures),
+      c .before .if5 .left,
+      le-ltb _ _ (c .if6 .left),
+    )
+
+pub opening-number-spec : {M : Type 1} → statement M
+opening-number-spec =
+    tie.close
+    (tie.spec
+    is-open-requires
+    returns
+    is-unusable-requires
+    returns-2
+    prices-refused-requires
+    returns-3
+    capacity-refused-requires
+    returns-4
+    bridge-refused-requires
+    returns-5
+    returns-6
+    returns-7)

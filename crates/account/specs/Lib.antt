@@ -1,0 +1,4 @@
+pub mod Account
+pub mod Chart
+pub mod Refusals
+pub mod Tallies

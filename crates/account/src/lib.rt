@@ -1,0 +1,418 @@
+// The account of document 01: opening, repricing, billing and closing. Each call takes the account as it is and hands it back
+// with the answer; a refusal has its number, zeros in every amount, and the account as it came.
+ghost use mathlib.Core.Path.{_≡_};
+ghost use mathlib.Core.Bool.{_||_};
+ghost use Prim.Native.Nat.{_≤_};
+ghost use Rattle.calendar.specs.Calendar.{lastMonth};
+ghost use Rattle.hours.specs.CriticalDays.{criticalRefused};
+ghost use Rattle.account.specs.Refusals.{isFresh, isOpen, isClosed};
+ghost use Rattle.account.specs.Refusals.{contentsRefused, cantArise, unusable, openingNumber, repricingNumber, closingNumber};
+ghost use Rattle.account.specs.Account.{freshAccount, afterBill, openingReply, repricingReply, billingReply, closingReply};
+ghost use Rattle.account.specs.Tallies.{numberFrom, replyFrom};
+use billing::Bill;
+use hours::ByPeriod;
+use registers::Tally;
+use tariff::Class;
+use tariff::PriceList;
+use tariff::Rider;
+use tariff::Terms;
+
+// The month after December 2099, which is next once that has been billed.
+const PAST_LAST_MONTH: u32 = 1200;
+
+pub enum Stage {
+    Fresh,
+    Open,
+    Closed,
+}
+
+// Carried Wh by period and standing money in cents; next is the month that is billed next.
+pub struct Account {
+    pub stage: Stage,
+    pub terms: Terms,
+    pub prices: PriceList,
+    pub next: u32,
+    pub carried: ByPeriod,
+    pub standing: u64,
+}
+
+pub struct ClosingAmounts {
+    pub forfeited: ByPeriod,
+    pub refunded: u64,
+}
+
+// The answer to an opening or a repricing.
+pub struct Reply {
+    pub number: u32,
+    pub account: Account,
+}
+
+pub struct BillingReply {
+    pub number: u32,
+    pub bill: Bill,
+    pub account: Account,
+}
+
+pub struct ClosingReply {
+    pub number: u32,
+    pub amounts: ClosingAmounts,
+    pub account: Account,
+}
+
+fn is_fresh(stage: Stage) -> bool
+    ensures { λ r. ⌜ r ≡ isFresh stage ⌝ }
+{
+    match stage {
+        Stage::Fresh => true,
+        Stage::Open => false,
+        Stage::Closed => false,
+    }
+}
+
+fn is_open(stage: Stage) -> bool
+    ensures { λ r. ⌜ r ≡ isOpen stage ⌝ }
+{
+    match stage {
+        Stage::Fresh => false,
+        Stage::Open => true,
+        Stage::Closed => false,
+    }
+}
+
+fn is_closed(stage: Stage) -> bool
+    ensures { λ r. ⌜ r ≡ isClosed stage ⌝ }
+{
+    match stage {
+        Stage::Fresh => false,
+        Stage::Open => false,
+        Stage::Closed => true,
+    }
+}
+
+// Whether an opening's checks refuse what an account holds.
+fn contents_refused(terms: Terms, prices: PriceList) -> bool
+    ensures { λ r. ⌜ r ≡ contentsRefused terms prices ⌝ }
+{
+    if tariff::prices_refused(prices) {
+        return true;
+    }
+    if tariff::capacity_refused(terms) {
+        return true;
+    }
+    tariff::bridge_refused(terms)
+}
+
+// Whether an account can't arise.
+fn cant_arise(account: Account) -> bool
+    ensures { λ r. ⌜ r ≡ cantArise account ⌝ }
+{
+    let carried = account.carried;
+    let stage = account.stage;
+    let terms = account.terms;
+    let prices = account.prices;
+    if billing::some_over(billing::CARRIED_LIMIT, carried) {
+        return true;
+    }
+    if billing::STANDING_LIMIT < account.standing {
+        return true;
+    }
+    if PAST_LAST_MONTH < account.next {
+        return true;
+    }
+    if is_open(stage) {
+        return contents_refused(terms, prices);
+    }
+    false
+}
+
+// Row 3 of the table.
+fn is_unusable(account: Account) -> bool
+    ensures { λ r. ⌜ r ≡ unusable account ⌝ }
+{
+    let stage = account.stage;
+    if is_closed(stage) {
+        return true;
+    }
+    cant_arise(account)
+}
+
+// The number of an opening.
+fn opening_number(account: Account, terms: Terms, prices: PriceList, month: u32) -> u32
+    ensures { λ r. ⌜ r ≡ openingNumber account terms prices month ⌝ }
+{
+    let stage = account.stage;
+    if is_open(stage) {
+        return 2;
+    }
+    if is_unusable(account) {
+        return 3;
+    }
+    if tariff::prices_refused(prices) {
+        return 4;
+    }
+    if tariff::capacity_refused(terms) {
+        return 5;
+    }
+    if tariff::bridge_refused(terms) {
+        return 6;
+    }
+    if calendar::LAST_MONTH < month { 7 } else { 0 }
+}
+
+// The number of a closing, and of the other calls' first rows on an account that was opened.
+fn closing_number(account: Account) -> u32
+    ensures { λ r. ⌜ r ≡ closingNumber account ⌝ }
+{
+    let stage = account.stage;
+    if is_fresh(stage) {
+        return 1;
+    }
+    if is_unusable(account) { 3 } else { 0 }
+}
+
+// The number of a repricing.
+fn repricing_number(account: Account, prices: PriceList) -> u32
+    ensures { λ r. ⌜ r ≡ repricingNumber account prices ⌝ }
+{
+    let number = closing_number(account);
+    if number != 0 {
+        return number;
+    }
+    if tariff::prices_refused(prices) { 4 } else { 0 }
+}
+
+// The number of a billing, from what its registers and critical days were found to be.
+fn billing_number(account: Account, month: u32, short: bool, days: bool, above: bool) -> u32
+    ensures { λ r. ⌜ r ≡ numberFrom account month short days above ⌝ }
+{
+    let number = closing_number(account);
+    if number != 0 {
+        return number;
+    }
+    if calendar::LAST_MONTH < account.next {
+        return 11;
+    }
+    if month != account.next {
+        return 7;
+    }
+    if short {
+        return 8;
+    }
+    if days {
+        return 9;
+    }
+    if above { 10 } else { 0 }
+}
+
+// Either of two.
+fn either(a: bool, b: bool) -> bool
+    ensures { λ r. ⌜ r ≡ (a || b) ⌝ }
+{
+    if a {
+        return true;
+    }
+    b
+}
+
+// The account after an accepted bill.
+fn after_bill(account: Account, bill: Bill) -> Account
+    requires { ⌜ account .next ≤ lastMonth ⌝ }
+    ensures { λ r. ⌜ r ≡ afterBill account bill ⌝ }
+{
+    let stage = account.stage;
+    let terms = account.terms;
+    let prices = account.prices;
+    let left = bill.left;
+    let charges = bill.charges;
+    let next = account.next + 1;
+    Account {
+        stage,
+        terms,
+        prices,
+        next,
+        carried: left,
+        standing: charges.standing,
+    }
+}
+
+// The answer to an accepted billing.
+fn billed(account: Account, month: u32, delivered: Tally, received: Tally) -> BillingReply
+    requires { ⌜ account .next ≤ lastMonth ⌝ }
+    ensures { λ r. ⌜ r ≡ replyFrom account month delivered received ⌝ }
+{
+    let terms = account.terms;
+    let prices = account.prices;
+    let carried = account.carried;
+    let taken = delivered.sums;
+    let given = received.sums;
+    let bill = billing::bill_from(
+        terms,
+        prices,
+        carried,
+        account.standing,
+        month,
+        taken,
+        given,
+        delivered.power,
+    );
+    BillingReply {
+        number: 0,
+        bill,
+        account: after_bill(account, bill),
+    }
+}
+
+impl Account {
+    // The account that a list of calls starts from.
+    pub fn fresh() -> Account
+        ensures { λ r. ⌜ r ≡ freshAccount ⌝ }
+    {
+        Account {
+            stage: Stage::Fresh,
+            terms: Terms {
+                rider: Rider::Banked,
+                class: Class::Home,
+                nameplate: 0,
+                limit: 0,
+                assisted: false,
+            },
+            prices: PriceList {
+                energy: ByPeriod {
+                    critical: 0,
+                    onpeak: 0,
+                    offpeak: 0,
+                    discount: 0,
+                },
+                demand: 0,
+                standby: 0,
+                bypass: 0,
+                credit: 0,
+                distribution: 0,
+                basic: 0,
+                minimum: 0,
+            },
+            next: 0,
+            carried: ByPeriod {
+                critical: 0,
+                onpeak: 0,
+                offpeak: 0,
+                discount: 0,
+            },
+            standing: 0,
+        }
+    }
+
+    // Opens a fresh account.
+    pub fn opening(self, terms: Terms, prices: PriceList, month: u32) -> Reply
+        ensures { λ r. ⌜ r ≡ openingReply self terms prices month ⌝ }
+    {
+        let number = opening_number(self, terms, prices, month);
+        if number != 0 {
+            return Reply {
+                number,
+                account: self,
+            };
+        }
+        let carried = billing::no_energy();
+        Reply {
+            number,
+            account: Account {
+                stage: Stage::Open,
+                terms,
+                prices,
+                next: month,
+                carried,
+                standing: 0,
+            },
+        }
+    }
+
+    // Replaces the price list.
+    pub fn repricing(self, prices: PriceList) -> Reply
+        ensures { λ r. ⌜ r ≡ repricingReply self prices ⌝ }
+    {
+        let number = repricing_number(self, prices);
+        if number != 0 {
+            return Reply {
+                number,
+                account: self,
+            };
+        }
+        let stage = self.stage;
+        let terms = self.terms;
+        let carried = self.carried;
+        Reply {
+            number,
+            account: Account {
+                stage,
+                terms,
+                prices,
+                next: self.next,
+                carried,
+                standing: self.standing,
+            },
+        }
+    }
+
+    // Bills the next month from its two registers, which are only read.
+    pub fn billing(
+        self,
+        month: u32,
+        delivered: &[u32],
+        received: &[u32],
+        critical_days: u32,
+    ) -> BillingReply
+        ensures { λ r. ⌜ r ≡ billingReply self month (now (delivered .entry)) (now (received .entry)) «critical_days» ⌝ }
+    {
+        let schedule = hours::fixed_schedule();
+        let taken = registers::tally_of(&schedule, delivered, month, critical_days);
+        let given = registers::tally_of(&schedule, received, month, critical_days);
+        let short = either(taken.wronglength, given.wronglength);
+        let days = hours::critical_refused(month, critical_days);
+        let above = either(taken.abovelimit, given.abovelimit);
+        let number = billing_number(self, month, short, days, above);
+        if number != 0 {
+            return BillingReply {
+                number,
+                bill: billing::no_bill(),
+                account: self,
+            };
+        }
+        billed(self, month, taken, given)
+    }
+
+    // Forfeits what is carried, refunds what is standing, and closes the account.
+    pub fn closing(self) -> ClosingReply
+        ensures { λ r. ⌜ r ≡ closingReply self ⌝ }
+    {
+        let number = closing_number(self);
+        if number != 0 {
+            return ClosingReply {
+                number,
+                amounts: ClosingAmounts {
+                    forfeited: billing::no_energy(),
+                    refunded: 0,
+                },
+                account: self,
+            };
+        }
+        let carried = self.carried;
+        let terms = self.terms;
+        let prices = self.prices;
+        ClosingReply {
+            number,
+            amounts: ClosingAmounts {
+                forfeited: carried,
+                refunded: self.standing,
+            },
+            account: Account {
+                stage: Stage::Closed,
+                terms,
+                prices,
+                next: self.next,
+                carried: billing::no_energy(),
+                standing: 0,
+            },
+        }
+    }
+}

@@ -1,0 +1,118 @@
+-- A list of calls, lent by its records and registers, is read back as that list: each call by its own case.
+use mathlib.Core.Path.{_≡_, refl, sym, _∙_, ap}
+use mathlib.Core.Bool.{Bool, true, false, cond, _&&_}
+use mathlib.Core.List.{List, [], _∷_, _++_}
+use Prim.Native.Nat.{ℕ, zero, suc, _+_, _*_, _/_, _^_, _<_}
+use native.Mathlib.Omega.{arith}
+use borrow.Author.Tests.{lt-ltb}
+use lib.Dec.{eqb, leb, ltb}
+use lib.ListN.{length, take, drop, length-append}
+use lib.Seq.{take-append-seam, drop-append-seam}
+use Rattle.tariff.specs.declared.Rider.{Rider}
+use Rattle.tariff.specs.declared.Rider.the-variants.{Banked, Bridge}
+use Rattle.tariff.specs.declared.Class.{Class}
+use Rattle.tariff.specs.declared.Class.the-variants.{Home, Business}
+use Rattle.ledger.specs.Ledger.{Call, opening, repricing, billing, closing}
+use Rattle.ledger.specs.Encoding.{riderCode, classCode, yesCode, deliveredCount, receivedCount, openingCodes, billingCodes, isCall, callOf}
+use Rattle.ledger.specs.Encoding.{decode, callsIn, recordOf, deliveredOf, receivedOf, joined, Fits32, AllFit}
+
+rider-known : (r : Rider) → leb (riderCode r) 1 ≡ true
+rider-known Banked = refl
+rider-known Bridge = refl
+
+rider-back : (r : Rider) → cond (eqb (riderCode r) 0) Banked Bridge ≡ r
+rider-back Banked = refl
+rider-back Bridge = refl
+
+class-known : (k : Class) → leb (classCode k) 1 ≡ true
+class-known Home = refl
+class-known Business = refl
+
+class-back : (k : Class) → cond (eqb (classCode k) 0) Home Business ≡ k
+class-back Home = refl
+class-back Business = refl
+
+yes-known : (b : Bool) → leb (yesCode b) 1 ≡ true
+yes-known true = refl
+yes-known false = refl
+
+yes-back : (b : Bool) → eqb (yesCode b) 1 ≡ b
+yes-back true = refl
+yes-back false = refl
+
+-- The record of a call is a call, and with the call's registers that call.
+known : (c : Call) → Fits32 c → isCall (recordOf c) ≡ true
+unfolding isCall openingCodes billingCodes
+known (opening t l m) h = rw (rider-known (t .rider), class-known (t .class), yes-known (t .assisted), lt-ltb m (2 ^ 32) h)
+known (repricing l) h = refl
+known (billing m delivered received x) h = rw (lt-ltb m (2 ^ 32) (h .0), lt-ltb x (2 ^ 32) (h .1))
+known closing h = refl
+
+back : (c : Call) → callOf (recordOf c) (deliveredOf c) (receivedOf c) ≡ c
+unfolding callOf
+back (opening t l m) = rw (rider-back (t .rider), class-back (t .class), yes-back (t .assisted))
+back (repricing l) = refl
+back (billing m delivered received x) = refl
+back closing = refl
+
+-- It takes its own registers from the front of what is lent.
+delivered-count : (c : Call) → deliveredCount (recordOf c) ≡ length (deliveredOf c)
+unfolding deliveredCount
+delivered-count (opening t l m) = refl
+delivered-count (repricing l) = refl
+delivered-count (billing m delivered received x) = refl
+delivered-count closing = refl
+
+received-count : (c : Call) → receivedCount (recordOf c) ≡ length (receivedOf c)
+unfolding receivedCount
+received-count (opening t l m) = refl
+received-count (repricing l) = refl
+received-count (billing m delivered received x) = refl
+received-count closing = refl
+
+take-record : (c : Call) (rest : List ℕ) → take 18 (recordOf c ++ rest) ≡ recordOf c
+take-record (opening t l m) rest = refl
+take-record (repricing l) rest = refl
+take-record (billing m delivered received x) rest = refl
+take-record closing rest = refl
+
+drop-record : (c : Call) (rest : List ℕ) → drop 18 (recordOf c ++ rest) ≡ rest
+drop-record (opening t l m) rest = refl
+drop-record (repricing l) rest = refl
+drop-record (billing m delivered received x) rest = refl
+drop-record closing rest = refl
+
+record-size : (c : Call) → length (recordOf c) ≡ 18
+record-size (opening t l m) = refl
+record-size (repricing l) = refl
+record-size (billing m delivered received x) = refl
+record-size closing = refl
+
+size : (cs : List Call) → length (joined recordOf cs) ≡ 18 * length cs
+unfolding joined
+size [] = refl
+size (c ∷ cs) = rw (length-append (recordOf c) (joined recordOf cs), record-size c) (omega (arith, size cs))
+
+decoded : (cs : List Call) → AllFit cs → decode (length cs) (joined recordOf cs) (joined deliveredOf cs) (joined receivedOf cs) ≡ cs
+unfolding decode joined AllFit
+decoded [] h = refl
+decoded (c ∷ cs) h =
+    rw (
+      take-record c (joined recordOf cs),
+      drop-record c (joined recordOf cs),
+      known c (h .0),
+      delivered-count c,
+      received-count c,
+      take-append-seam (deliveredOf c) (joined deliveredOf cs),
+      drop-append-seam (deliveredOf c) (joined deliveredOf cs),
+      take-append-seam (receivedOf c) (joined receivedOf cs),
+      drop-append-seam (receivedOf c) (joined receivedOf cs),
+      back c,
+      decoded cs (h .1),
+    )
+
+pub read-back : (cs : List Call) → AllFit cs → callsIn (joined recordOf cs) (joined deliveredOf cs) (joined receivedOf cs) ≡ cs
+unfolding callsIn
+read-back cs h =
+    let e : length (joined recordOf cs) / 18 ≡ length cs = omega (arith, size cs) in
+    rw e (decoded cs h)

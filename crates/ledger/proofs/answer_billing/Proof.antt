@@ -1,0 +1,19 @@
+-- `ledger::answer_billing` hands on the account's reply.
+use borrow.Author.Needs.{needs}
+use Rattle.ledger.specs.Ledger.{answerOf, accountAfter}
+use Rattle.ledger.specs.Running.{stepOf}
+use Rattle.ledger.proofs.answer_billing.Statement.{statement}
+use Rattle.ledger.proofs.answer_billing.Tie as tie
+
+billing-requires : tie.Need-billing-requires
+billing-requires c κs = search needs
+
+no-energy-requires : tie.Need-no-energy-requires
+no-energy-requires c κs = search needs
+
+returns : tie.Need-returns
+unfolding stepOf answerOf accountAfter
+returns c = rw (c .no-energy .ensures, c .before .before .before .billing .ensures)
+
+pub answer-billing-spec : {M : Type 1} → statement M
+answer-billing-spec = tie.close (tie.spec billing-requires no-energy-requires returns)

@@ -1,0 +1,13 @@
+-- `ledger::class_at` makes the definition's test.
+use borrow.Author.Tests.{eq-eqb, ne-eqb}
+use Rattle.ledger.proofs.class_at.Statement.{statement}
+use Rattle.ledger.proofs.class_at.Tie as tie
+
+returns : tie.Need-returns
+returns c = simp (eq-eqb _ _ (c .if1 .taken))
+
+returns-2 : tie.Need-returns-2
+returns-2 c = simp (ne-eqb _ _ (c .if1 .left))
+
+pub class-at-spec : {M : Type 1} → statement M
+class-at-spec = tie.close (tie.spec returns returns-2)

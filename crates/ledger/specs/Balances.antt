@@ -1,0 +1,99 @@
+-- Demand 3: the balances over a list of calls from the fresh account. "Each total of demand 3 is a sum over the answers returned:
+-- forfeited from bills and closings, refunded from closings, the others from bills. Exported and delivered are instead summed as in step 2
+-- from the registers of the bills answered 0. Left (the carried Wh) and standing are those of the account after the list."
+use mathlib.Core.Path.{_≡_}
+use mathlib.Core.Bool.{cond}
+use mathlib.Core.List.{List, [], _∷_}
+use Prim.Native.Nat.{ℕ, _+_, _≤_, _<_}
+use lib.Dec.{eqb}
+use Rattle.hours.specs.Hours.{fixedSchedule}
+use Rattle.hours.specs.declared.ByPeriod.{ByPeriod}
+use Rattle.registers.specs.Registers.{sumOf}
+use Rattle.billing.specs.declared.Bill.{Bill}
+use Rattle.account.specs.declared.Account.{Account}
+use Rattle.account.specs.Account.{freshAccount}
+use Rattle.ledger.specs.declared.Answer.{Answer}
+use Rattle.ledger.specs.Ledger.{Call, opening, repricing, billing, closing, answerOf, accountAfter, answersOf, lastOf}
+
+-- The four periods, and the amount of one of them.
+pub data Period : Type 0 where
+  Critical : Period
+  OnPeak : Period
+  OffPeak : Period
+  Discount : Period
+
+abbrev pub numberOf : Period → ℕ
+numberOf Critical = 0
+numberOf OnPeak = 1
+numberOf OffPeak = 2
+numberOf Discount = 3
+
+abbrev pub amountOf : Period → ByPeriod → ℕ
+amountOf Critical a = a .critical
+amountOf OnPeak a = a .onpeak
+amountOf OffPeak a = a .offpeak
+amountOf Discount a = a .discount
+
+-- A total over answers, of an amount of each.
+unfoldable pub totalBy : (Answer → ℕ) → List Answer → ℕ
+totalBy f [] = 0
+totalBy f (x ∷ xs) = f x + totalBy f xs
+
+-- The same of an amount of each bill, in one period; and summed over the four.
+abbrev pub billTotal : Period → (Bill → ByPeriod) → List Answer → ℕ
+billTotal p f xs = totalBy (λ x. amountOf p (f (x .bill))) xs
+
+abbrev pub allPeriods : (Bill → ByPeriod) → List Answer → ℕ
+allPeriods f xs = billTotal Critical f xs + billTotal OnPeak f xs + billTotal OffPeak f xs + billTotal Discount f xs
+
+-- Forfeited Wh of bills and closings.
+abbrev pub forfeitedTotal : Period → List Answer → ℕ
+forfeitedTotal p xs = totalBy (λ x. amountOf p (x .bill .forfeited) + amountOf p (x .amounts .forfeited)) xs
+
+-- Step 2 on the registers of one call: what was delivered, and what was received and so exported.
+abbrev pub deliveredBy : Period → Call → ℕ
+deliveredBy p (opening t l m) = 0
+deliveredBy p (repricing l) = 0
+deliveredBy p (billing m delivered received x) = sumOf fixedSchedule m x delivered (numberOf p)
+deliveredBy p closing = 0
+
+abbrev pub exportedBy : Period → Call → ℕ
+exportedBy p (opening t l m) = 0
+exportedBy p (repricing l) = 0
+exportedBy p (billing m delivered received x) = sumOf fixedSchedule m x received (numberOf p)
+exportedBy p closing = 0
+
+-- The same over a list, "of the bills answered 0".
+unfoldable pub registerTotal : (Call → ℕ) → Account → List Call → ℕ
+registerTotal f a [] = 0
+registerTotal f a (c ∷ cs) = cond (eqb (answerOf a c .number) 0) (f c) 0 + registerTotal f (accountAfter a c) cs
+
+-- Each answer has a property.
+unfoldable pub Each : (Answer → Type 0) → List Answer → Type 0
+Each P [] = Unit {0}
+Each P (x ∷ xs) = P x × Each P xs
+
+-- "every bill that charges a watt-hour in a period has left 0 and paid 0 there and in each dearer period"; "a dearer period is one of lower
+-- number".
+abbrev pub ChargedLast : Answer → Type 0
+ChargedLast x =
+    (p q : Period) → 0 < amountOf p (x .bill .billed) → numberOf q ≤ numberOf p
+    → (amountOf q (x .bill .left) ≡ 0) × (amountOf q (x .bill .paid) ≡ 0)
+
+-- The balances of a list from the fresh account.
+pub record Balanced (cs : List Call) : Type 0 where
+  pub exported : (p : Period) →
+      registerTotal (exportedBy p) freshAccount cs
+      ≡ billTotal p (λ b. b .own) (answersOf freshAccount cs) + billTotal p (λ b. b .out) (answersOf freshAccount cs)
+      + billTotal p (λ b. b .paid) (answersOf freshAccount cs) + forfeitedTotal p (answersOf freshAccount cs)
+      + amountOf p (lastOf freshAccount cs .carried)
+  pub delivered : (p : Period) →
+      registerTotal (deliveredBy p) freshAccount cs
+      ≡ billTotal p (λ b. b .own) (answersOf freshAccount cs) + billTotal p (λ b. b .into) (answersOf freshAccount cs)
+      + billTotal p (λ b. b .billed) (answersOf freshAccount cs)
+  pub moved : allPeriods (λ b. b .out) (answersOf freshAccount cs) ≡ allPeriods (λ b. b .into) (answersOf freshAccount cs)
+  pub money :
+      totalBy (λ x. x .bill .charges .granted) (answersOf freshAccount cs)
+      ≡ totalBy (λ x. x .bill .charges .used) (answersOf freshAccount cs)
+      + totalBy (λ x. x .amounts .refunded) (answersOf freshAccount cs) + lastOf freshAccount cs .standing
+  pub charged : Each ChargedLast (answersOf freshAccount cs)

@@ -1,0 +1,398 @@
+// A list of calls from the fresh account: every answer, and the last account.
+ghost use mathlib.Core.Path.{_≡_};
+ghost use mathlib.Core.Bool.{true, cond};
+ghost use Prim.Native.Nat.{_+_, _^_, _<_, min};
+ghost use lib.Dec.{eqb};
+ghost use lib.ListN.{length, getD, set};
+ghost use lib.Seq.{sets};
+ghost use Rattle.tariff.specs.declared.Rider.the-variants.{Banked, Bridge};
+ghost use Rattle.tariff.specs.declared.Class.the-variants.{Home, Business};
+ghost use Rattle.ledger.specs.Ledger.{opening, repricing, billing, closing};
+ghost use Rattle.ledger.specs.Encoding.{kindOf, termsAt, pricesAt, openingCodes, billingCodes, isCall, callOf, rowOf};
+ghost use Rattle.ledger.specs.DemandThree.{DemandThree};
+ghost use Rattle.ledger.specs.Running.{plainAnswer, stepOf};
+use account::Account;
+use account::ClosingAmounts;
+use billing::Bill;
+use hours::ByPeriod;
+use tariff::Class;
+use tariff::PriceList;
+use tariff::Rider;
+use tariff::Terms;
+
+// The numbers of a call's record and of an answer's row.
+const RECORD: usize = 18;
+
+const ROW: usize = 60;
+
+// The kinds of calls.
+const OPENING: u64 = 0;
+
+const REPRICING: u64 = 1;
+
+const BILLING: u64 = 2;
+
+const CLOSING: u64 = 3;
+
+// The first number of more than 32 bits.
+const LIMIT_32: u64 = 0x1_0000_0000;
+
+// The answer to one call: its number and every amount, 0 in those that the call doesn't return.
+pub struct Answer {
+    pub number: u32,
+    pub bill: Bill,
+    pub amounts: ClosingAmounts,
+}
+
+// An answer, and the account after it.
+struct Step {
+    account: Account,
+    answer: Answer,
+}
+
+fn rider_at(code: u64) -> Rider
+    ensures { λ r. ⌜ r ≡ cond (eqb code 0) Banked Bridge ⌝ }
+{
+    if code == 0 {
+        Rider::Banked
+    } else {
+        Rider::Bridge
+    }
+}
+
+fn class_at(code: u64) -> Class
+    ensures { λ r. ⌜ r ≡ cond (eqb code 0) Home Business ⌝ }
+{
+    if code == 0 {
+        Class::Home
+    } else {
+        Class::Business
+    }
+}
+
+// The terms of an opening.
+fn terms_at(call: &[u64]) -> Terms
+    requires { ⌜ length (now call) ≡ 18 ⌝ }
+    ensures { λ r. ⌜ r ≡ termsAt (now (call .entry)) ⌝ }
+{
+    let rider = rider_at(call[1]);
+    let class = class_at(call[2]);
+    Terms {
+        rider,
+        class,
+        nameplate: call[3],
+        limit: call[4],
+        assisted: call[5] == 1,
+    }
+}
+
+// The price list of an opening or a repricing.
+fn prices_at(call: &[u64]) -> PriceList
+    requires { ⌜ length (now call) ≡ 18 ⌝ }
+    ensures { λ r. ⌜ r ≡ pricesAt (now (call .entry)) ⌝ }
+{
+    PriceList {
+        energy: ByPeriod {
+            critical: call[6],
+            onpeak: call[7],
+            offpeak: call[8],
+            discount: call[9],
+        },
+        demand: call[10],
+        standby: call[11],
+        bypass: call[12],
+        credit: call[13],
+        distribution: call[14],
+        basic: call[15],
+        minimum: call[16],
+    }
+}
+
+// Whether an opening's record has known codes and a month of 32 bits.
+fn is_opening(call: &[u64]) -> bool
+    requires { ⌜ length (now call) ≡ 18 ⌝ }
+    ensures { λ r. ⌜ r ≡ openingCodes (now (call .entry)) ⌝ }
+{
+    if 1 < call[1] {
+        return false;
+    }
+    if 1 < call[2] {
+        return false;
+    }
+    if 1 < call[5] {
+        return false;
+    }
+    call[17] < LIMIT_32
+}
+
+// Whether a billing's record has a month and critical days of 32 bits.
+fn is_billing(call: &[u64]) -> bool
+    requires { ⌜ length (now call) ≡ 18 ⌝ }
+    ensures { λ r. ⌜ r ≡ billingCodes (now (call .entry)) ⌝ }
+{
+    if call[1] < LIMIT_32 {
+        return call[4] < LIMIT_32;
+    }
+    false
+}
+
+// Whether a record is a call.
+fn is_call(call: &[u64]) -> bool
+    requires { ⌜ length (now call) ≡ 18 ⌝ }
+    ensures { λ r. ⌜ r ≡ isCall (now (call .entry)) ⌝ }
+{
+    let kind = call[0];
+    if kind == OPENING {
+        return is_opening(call);
+    }
+    if kind == BILLING {
+        return is_billing(call);
+    }
+    kind <= CLOSING
+}
+
+// How many readings a call takes from a register that has some left: those at a place of a billing's record.
+fn readings_taken(call: &[u64], place: usize, left: usize) -> usize
+    requires { ⌜ length (now call) ≡ 18 ⌝ }
+    requires { ⌜ place < 18 ⌝ }
+    ensures { λ r. ⌜ r ≡ min (cond (eqb (kindOf (now (call .entry))) 2) (getD (now (call .entry)) place 0) 0) left ⌝ }
+{
+    if call[0] != BILLING {
+        return 0;
+    }
+    let count = call[place];
+    if count < left as u64 {
+        count as usize
+    } else {
+        left
+    }
+}
+
+// No bill, and no amounts of a closing, beside a number.
+fn plain_answer(number: u32) -> Answer
+    ensures { λ r. ⌜ r ≡ plainAnswer number ⌝ }
+{
+    Answer {
+        number,
+        bill: billing::no_bill(),
+        amounts: ClosingAmounts {
+            forfeited: billing::no_energy(),
+            refunded: 0,
+        },
+    }
+}
+
+fn answer_opening(account: Account, terms: Terms, prices: PriceList, month: u32) -> Step
+    ensures { λ r. ⌜ r ≡ stepOf account (opening terms prices month) ⌝ }
+{
+    let reply = account.opening(terms, prices, month);
+    let after = reply.account;
+    Step {
+        account: after,
+        answer: plain_answer(reply.number),
+    }
+}
+
+fn answer_repricing(account: Account, prices: PriceList) -> Step
+    ensures { λ r. ⌜ r ≡ stepOf account (repricing prices) ⌝ }
+{
+    let reply = account.repricing(prices);
+    let after = reply.account;
+    Step {
+        account: after,
+        answer: plain_answer(reply.number),
+    }
+}
+
+fn answer_billing(
+    account: Account,
+    month: u32,
+    delivered: &[u32],
+    received: &[u32],
+    critical_days: u32,
+) -> Step
+    ensures { λ r. ⌜ r ≡ stepOf account (billing month (now (delivered .entry)) (now (received .entry)) «critical_days») ⌝ }
+{
+    let reply = account.billing(month, delivered, received, critical_days);
+    let after = reply.account;
+    let bill = reply.bill;
+    Step {
+        account: after,
+        answer: Answer {
+            number: reply.number,
+            bill,
+            amounts: ClosingAmounts {
+                forfeited: billing::no_energy(),
+                refunded: 0,
+            },
+        },
+    }
+}
+
+fn answer_closing(account: Account) -> Step
+    ensures { λ r. ⌜ r ≡ stepOf account closing ⌝ }
+{
+    let reply = account.closing();
+    let after = reply.account;
+    let amounts = reply.amounts;
+    Step {
+        account: after,
+        answer: Answer {
+            number: reply.number,
+            bill: billing::no_bill(),
+            amounts,
+        },
+    }
+}
+
+// The answer to the call of a record, with the readings of a billing.
+fn answer_call(account: Account, call: &[u64], delivered: &[u32], received: &[u32]) -> Step
+    requires { ⌜ length (now call) ≡ 18 ⌝ }
+    requires { ⌜ isCall (now call) ≡ true ⌝ }
+    ensures { λ r. ⌜ r ≡ stepOf account (callOf (now (call .entry)) (now (delivered .entry)) (now (received .entry))) ⌝ }
+{
+    let kind = call[0];
+    if kind == OPENING {
+        let terms = terms_at(call);
+        let prices = prices_at(call);
+        return answer_opening(account, terms, prices, call[17] as u32);
+    }
+    if kind == REPRICING {
+        let prices = prices_at(call);
+        return answer_repricing(account, prices);
+    }
+    if kind == BILLING {
+        return answer_billing(account, call[1] as u32, delivered, received, call[4] as u32);
+    }
+    answer_closing(account)
+}
+
+// The sixty numbers of an answer.
+fn row_of(answer: Answer) -> [u64; 60]
+    ensures { λ r. ⌜ r ≡ rowOf answer ⌝ }
+{
+    let b = answer.bill;
+    let c = b.charges;
+    let closed = answer.amounts;
+    [
+        answer.number as u64,
+        b.forfeited.critical,
+        b.forfeited.onpeak,
+        b.forfeited.offpeak,
+        b.forfeited.discount,
+        b.delivered.critical,
+        b.delivered.onpeak,
+        b.delivered.offpeak,
+        b.delivered.discount,
+        b.exported.critical,
+        b.exported.onpeak,
+        b.exported.offpeak,
+        b.exported.discount,
+        b.own.critical,
+        b.own.onpeak,
+        b.own.offpeak,
+        b.own.discount,
+        b.credit.critical,
+        b.credit.onpeak,
+        b.credit.offpeak,
+        b.credit.discount,
+        b.need.critical,
+        b.need.onpeak,
+        b.need.offpeak,
+        b.need.discount,
+        b.out.critical,
+        b.out.onpeak,
+        b.out.offpeak,
+        b.out.discount,
+        b.into.critical,
+        b.into.onpeak,
+        b.into.offpeak,
+        b.into.discount,
+        b.billed.critical,
+        b.billed.onpeak,
+        b.billed.offpeak,
+        b.billed.discount,
+        b.left.critical,
+        b.left.onpeak,
+        b.left.offpeak,
+        b.left.discount,
+        b.paid.critical,
+        b.paid.onpeak,
+        b.paid.offpeak,
+        b.paid.discount,
+        c.energy,
+        c.demand,
+        c.standby,
+        c.bypass,
+        c.shortfall,
+        c.gross,
+        c.granted,
+        c.used,
+        c.due,
+        c.standing,
+        closed.forfeited.critical,
+        closed.forfeited.onpeak,
+        closed.forfeited.offpeak,
+        closed.forfeited.discount,
+        closed.refunded,
+    ]
+}
+
+// Writes a number at a place, if there is one.
+fn put(answers: &mut [u64], at: usize, value: u64)
+    ensures { λ r. ⌜ now (answers .exit) ≡ set (now (answers .entry)) at value ⌝ }
+{
+    if at < answers.len() {
+        answers[at] = value;
+    }
+}
+
+// Writes a row from a place on; what doesn't fit is left out.
+fn write_row(answers: &mut [u64], start: usize, row: &[u64; 60])
+    requires { ⌜ start < 2 ^ 63 ⌝ }
+    requires { ⌜ length (now row) ≡ 60 ⌝ }
+    ensures { λ r. ⌜ now (answers .exit) ≡ sets (now (answers .entry)) start (now (row .entry)) ⌝ }
+{
+    let mut place = 0;
+    while place < ROW {
+        put(answers, start + place, row[place]);
+        place += 1;
+    }
+}
+
+// Answers a list of calls from the fresh account. The calls are records of eighteen numbers, the readings of billings stand one
+// after the other in the two registers, and each answer is written to the buffer as a row of sixty numbers.
+pub fn run(calls: &[u64], delivered: &[u32], received: &[u32], answers: &mut [u64]) -> Account
+    ensures { λ r. ⌜ DemandThree (now (calls .entry)) (now (delivered .entry)) (now (received .entry)) (now (answers .entry)) (now (answers .exit)) r ⌝ }
+{
+    let mut account = Account::fresh();
+    let mut left = calls.len() / RECORD;
+    let mut call = 0;
+    let mut taken = 0;
+    let mut given = 0;
+    let mut row = 0;
+    while 0 < left {
+        let end = call + RECORD;
+        let record = &calls[call..end];
+        if !is_call(record) {
+            return account;
+        }
+        let taken_end = taken + readings_taken(record, 2, delivered.len() - taken);
+        let given_end = given + readings_taken(record, 3, received.len() - given);
+        let step = answer_call(
+            account,
+            record,
+            &delivered[taken..taken_end],
+            &received[given..given_end],
+        );
+        account = step.account;
+        let words = row_of(step.answer);
+        write_row(answers, row, &words);
+        left -= 1;
+        call = end;
+        taken = taken_end;
+        given = given_end;
+        row += ROW;
+    }
+    account
+}
