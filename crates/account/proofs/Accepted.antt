@@ -17,7 +17,7 @@ use Rattle.billing.specs.Billing.{carriedLimit, standingLimit, amountsOf}
 use Rattle.account.specs.declared.Stage.{Stage}
 use Rattle.account.specs.declared.Stage.the-variants.{Fresh, Open, Closed}
 use Rattle.account.specs.declared.Account.{Account}
-use Rattle.account.specs.Refusals.{isFresh, isOpen, isClosed, pastLastMonth, contentsRefused, cantArise, unusable}
+use Rattle.account.specs.Refusals.{isFresh, isOpen, isClosed, highestNext, contentsRefused, cantArise, unusable}
 use Rattle.account.specs.Refusals.{openingNumber, repricingNumber, billingNumber, closingNumber}
 
 -- A row that would answer a number doesn't apply, and the rows after it answer 0.
@@ -34,13 +34,13 @@ open-stage Closed e f = cc
 pub record Arises (a : Account) : Type 0 where
   pub carried : someOver carriedLimit (amountsOf (a .carried)) ≡ false
   pub standing : a .standing ≤ standingLimit
-  pub next : a .next ≤ pastLastMonth
+  pub next : a .next ≤ highestNext
 
 pub arises : (a : Account) → cantArise a ≡ false → Arises a
 unfolding cantArise
 arises a e =
     let (front, _) = or-neither _ _ e in
-    let (amounts, next) = or-neither (someOver carriedLimit (amountsOf (a .carried)) || ltb standingLimit (a .standing)) (ltb pastLastMonth (a .next)) front in
+    let (amounts, next) = or-neither (someOver carriedLimit (amountsOf (a .carried)) || ltb standingLimit (a .standing)) (ltb highestNext (a .next)) front in
     let (carried, standing) = or-neither (someOver carriedLimit (amountsOf (a .carried))) (ltb standingLimit (a .standing)) amounts in
     record { carried = carried; standing = ltb-false _ _ standing; next = ltb-false _ _ next }
 
@@ -70,7 +70,7 @@ usable a f u =
     let stage : a .stage ≡ Open = open-stage (a .stage) f closed in
     let (_, held) =
     or-neither
-    (someOver carriedLimit (amountsOf (a .carried)) || ltb standingLimit (a .standing) || ltb pastLastMonth (a .next))
+    (someOver carriedLimit (amountsOf (a .carried)) || ltb standingLimit (a .standing) || ltb highestNext (a .next))
     _
     possible in
     record { stage = stage; possible = arises a possible; holds = contents (a .terms) (a .prices) (rw stage at held) }

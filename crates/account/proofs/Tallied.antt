@@ -10,7 +10,7 @@ use Rattle.hours.specs.Hours.{fixedSchedule, byPeriod}
 use Rattle.registers.specs.Registers.{sumOf, demandPower, lengthRefused, readingRefused, tallyOf}
 use Rattle.registers.proofs.Laws.{tally-length, tally-right, sum-within, power-within}
 use Rattle.tariff.proofs.Laws.{nameplate-within}
-use Rattle.billing.specs.Billing.{billedFrom, noBill}
+use Rattle.billing.specs.Billing.{billOrNone, noBill}
 use Rattle.billing.specs.declared.Bill.{Bill}
 use Rattle.registers.specs.declared.Tally.{Tally}
 use Rattle.account.specs.declared.BillingReply.{BillingReply}
@@ -43,12 +43,12 @@ module _ (a : Account) (m : ℕ) (delivered received : List ℕ) (x : ℕ) where
 
   -- Sums of accepted registers are far below the limits.
   pub bill-is : billingNumber a m delivered received x ≡ 0 →
-      billedFrom (a .terms) (a .prices) (a .carried) (a .standing) m
+      billOrNone (a .terms) (a .prices) (a .carried) (a .standing) m
       (tallyOf fixedSchedule m x delivered .sums)
       (tallyOf fixedSchedule m x received .sums)
       (tallyOf fixedSchedule m x delivered .power)
       ≡ billOf a m delivered received x
-  unfolding billedFrom billOf
+  unfolding billOrNone billOf
   bill-is e =
       let k : BillingAccepted a m delivered received x = billing-accepted a m delivered received x e in
       let d : (p : ℕ) → sumOf fixedSchedule m x delivered p ≤ 2976000000 = sum-within fixedSchedule m x delivered (k .delivered-readings) in

@@ -19,7 +19,7 @@ use Rattle.account.specs.Refusals.{openingNumber, repricingNumber, billi
 use Rattle.billing.specs.Billing.{none, billFrom, noBill}
 use Rattle.billing.specs.declared.Bill.{Bill}
 
--- "The fresh account that a list starts from has 0 carried and 0 standing"; all else is 0 too (open point 4).
+-- "The fresh account that a list starts from has 0 carried and 0 standing"; our reading: every other number is 0 too.
 abbrev pub freshAccount : Account
 freshAccount =
     record {

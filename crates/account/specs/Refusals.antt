@@ -2,7 +2,7 @@
 -- a is the account, t terms, l a price list, m a month, x the number that names the critical days.
 use mathlib.Core.Bool.{Bool, true, false, cond, not, _&&_, _||_}
 use mathlib.Core.List.{List, [], _∷_}
-use Prim.Native.Nat.{ℕ}
+use Prim.Native.Nat.{ℕ, _+_}
 use lib.Dec.{eqb, ltb}
 use Rattle.calendar.specs.Calendar.{lastMonth}
 use Rattle.hours.specs.CriticalDays.{criticalRefused}
@@ -31,9 +31,9 @@ isClosed Fresh = false
 isClosed Open = false
 isClosed Closed = true
 
--- "next month above 1200": the month after the last one.
-abbrev pub pastLastMonth : ℕ
-pastLastMonth = 1200
+-- "next month above 1200": the month after the last one is the highest that can be next.
+abbrev pub highestNext : ℕ
+highestNext = lastMonth + 1
 
 -- "contents that an opening's checks placed between 3 and 7 (here 4, 5 and 6) refuse"
 unfoldable pub contentsRefused : Terms → PriceList → Bool
@@ -43,7 +43,7 @@ contentsRefused t l = pricesRefused l || capacityRefused t || bridgeRefused t
 -- where open, contents that" the checks refuse.
 unfoldable pub cantArise : Account → Bool
 cantArise a =
-    someOver carriedLimit (amountsOf (a .carried)) || ltb standingLimit (a .standing) || ltb pastLastMonth (a .next) || (isOpen (a .stage) && contentsRefused (a .terms) (a .prices))
+    someOver carriedLimit (amountsOf (a .carried)) || ltb standingLimit (a .standing) || ltb highestNext (a .next) || (isOpen (a .stage) && contentsRefused (a .terms) (a .prices))
 
 -- Row 3: "any call on a closed account, or on one that can't arise".
 unfoldable pub unusable : Account → Bool
@@ -63,7 +63,7 @@ abbrev pub firstOf : List Row → ℕ
 firstOf [] = 0
 firstOf (r ∷ rs) = cond (r .applies) (r .number) (firstOf rs)
 
--- Opening: rows 2, 3, 4, 5, 6, 7.
+-- Opening: rows 2 ("opening an open account"), 3, 4, 5, 6, 7 ("first month above 1199").
 unfoldable pub openingNumber : Account → Terms → PriceList → ℕ → ℕ
 openingNumber a t l m =
     firstOf
@@ -75,7 +75,7 @@ openingNumber a t l m =
     ∷ row 7 (ltb lastMonth m)
     ∷ [])
 
--- Repricing: rows 1, 3, 4.
+-- Repricing: rows 1 ("account fresh"), 3, 4.
 unfoldable pub repricingNumber : Account → PriceList → ℕ
 repricingNumber a l = firstOf (row 1 (isFresh (a .stage)) ∷ row 3 (unusable a) ∷ row 4 (pricesRefused l) ∷ [])
 

@@ -6,7 +6,7 @@ use lib.Dec.{eqb, ltb}
 use Rattle.calendar.specs.Calendar.{lastMonth}
 use Rattle.registers.specs.declared.Tally.{Tally}
 use Rattle.billing.specs.declared.Bill.{Bill}
-use Rattle.billing.specs.Billing.{billedFrom}
+use Rattle.billing.specs.Billing.{billOrNone}
 use Rattle.account.specs.declared.Account.{Account}
 use Rattle.account.specs.declared.BillingReply.{BillingReply}
 use Rattle.account.specs.Account.{afterBill}
@@ -29,5 +29,5 @@ numberFrom a m short days above =
 unfoldable pub replyFrom : Account → ℕ → Tally → Tally → BillingReply
 replyFrom a m delivered received =
     let b : Bill =
-    billedFrom (a .terms) (a .prices) (a .carried) (a .standing) m (delivered .sums) (received .sums) (delivered .power) in
+    billOrNone (a .terms) (a .prices) (a .carried) (a .standing) m (delivered .sums) (received .sums) (delivered .power) in
     record { number = 0; bill = b; account = afterBill a b }

@@ -159,7 +159,7 @@ fn opening_number(account: Account, terms: Terms, prices: PriceList, month: u32)
     if calendar::LAST_MONTH < month { 7 } else { 0 }
 }
 
-// The number of a closing, and of the other calls' first rows on an account that was opened.
+// The number of a closing: rows 1 and 3, which are also the first rows of a repricing and a billing.
 fn closing_number(account: Account) -> u32
     ensures { λ r. ⌜ r ≡ closingNumber account ⌝ }
 {

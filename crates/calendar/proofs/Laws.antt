@@ -9,7 +9,7 @@ use native.Mathlib.Numerals.{add-one}
 use native.Mathlib.Omega.{arith}
 use lib.Dec.{T, leb, leb→le, eqb}
 use lib.ListN.{getD}
-use Rattle.calendar.specs.Calendar.{yearOf, isLeap, commonDays, leapDay, daysIn, firstWeekday, weekdayOf, dayLength, quarterOf}
+use Rattle.calendar.specs.Calendar.{monthNumber, yearOf, monthOfYear, isLeap, commonDays, leapDay, daysIn, firstWeekday, weekdayOf, dayLength, quarterOf}
 use Rattle.calendar.specs.Calendar.{readingsThrough, monthLength}
 use Rattle.calendar.proofs.Below.{below}
 
@@ -31,6 +31,10 @@ commonDays-ge k h = leb→le _ _ (below (λ k. leb 28 (getD commonDays k 0)) 12 
 
 commonDays-le : (k : ℕ) → k < 12 → getD commonDays k 0 + cond (eqb (k + 1) 2) 1 0 ≤ 31
 commonDays-le k h = leb→le _ _ (below (λ k. leb (getD commonDays k 0 + cond (eqb (k + 1) 2) 1 0) 31) 12 tt k h)
+
+-- A month's year and month of the year give its number back.
+pub month-number : (m : ℕ) → monthNumber (yearOf m) (monthOfYear m) ≡ m
+month-number m = omega arith
 
 -- The days of a month, read at its place in the table.
 pub daysIn-is : (m : ℕ) → daysIn m ≡ getD commonDays (m % 12) 0 + leapDay m

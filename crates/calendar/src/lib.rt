@@ -38,7 +38,7 @@ pub fn month_of_year(month: u32) -> u32
 }
 
 // Whether a year is a leap year of the Gregorian calendar.
-pub fn is_leap(year: u32) -> bool
+fn is_leap(year: u32) -> bool
     ensures { λ r. ⌜ r ≡ isLeap year ⌝ }
 {
     if year % 4 != 0 {
@@ -51,7 +51,7 @@ pub fn is_leap(year: u32) -> bool
 }
 
 // 1 in February of a leap year, else 0.
-pub fn leap_day(month: u32) -> u32
+fn leap_day(month: u32) -> u32
     ensures { λ r. ⌜ r ≡ leapDay month ⌝ }
 {
     if month_of_year(month) != 2 {
@@ -81,7 +81,7 @@ pub fn first_weekday(month: u32) -> u32
 }
 
 // The weekday of a day of a month.
-pub fn weekday_of(month: u32, day: u32) -> u32
+fn weekday_of(month: u32, day: u32) -> u32
     ensures { λ r. ⌜ r ≡ weekdayOf month day ⌝ }
 {
     let first = first_weekday(month);

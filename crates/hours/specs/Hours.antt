@@ -42,7 +42,7 @@ windows s k q zero = []
 windows s k q (suc n) = windowPeriod s k q ∷ windows s k (suc q) n
 
 -- "The hours are kept as a fixed schedule of 384 entries, one for each season, day kind and quarter": 96 for the weekdays and 96 for
--- the weekends of winter, then those of summer (our order, open point 9).
+-- the weekends of winter, then those of summer (our reading of the order).
 unfoldable pub fixedSchedule : List ℕ
 fixedSchedule = windows Winter Weekday 0 96 ++ windows Winter Weekend 0 96 ++ windows Summer Weekday 0 96 ++ windows Summer Weekend 0 96
 

@@ -10,7 +10,7 @@ use Rattle.billing.specs.Netting.{AtMost}
 use Rattle.billing.proofs.Limits.{none-over}
 use Rattle.account.specs.declared.Account.{Account}
 use Rattle.account.specs.Account.{freshAccount}
-use Rattle.account.specs.Refusals.{cantArise, pastLastMonth}
+use Rattle.account.specs.Refusals.{cantArise, highestNext}
 use Rattle.ledger.specs.Ledger.{Call, accountAfter, lastOf}
 use Rattle.ledger.proofs.Steps.{Reached, fresh-reached, step}
 
@@ -23,7 +23,7 @@ arises : (a : Account) → Reached a → cantArise a ≡ false
 unfolding cantArise
 arises a r =
     let carried : AtMost carriedLimit (a .carried) = omega (arith, r .held, r .next) in
-    rw (none-over _ _ carried, le-ltb standingLimit (a .standing) (omega arith), le-ltb pastLastMonth (a .next) (r .next)) (r .contents)
+    rw (none-over _ _ carried, le-ltb standingLimit (a .standing) (omega arith), le-ltb highestNext (a .next) (r .next)) (r .contents)
 
 pub reachable : (cs : List Call) → cantArise (lastOf freshAccount cs) ≡ false
 reachable cs = arises (lastOf freshAccount cs) (reached-from freshAccount cs fresh-reached)

@@ -16,7 +16,7 @@ use Rattle.billing.specs.Billing.{noBill}
 use Rattle.account.specs.declared.Stage.the-variants.{Fresh}
 use Rattle.account.specs.declared.Account.{Account}
 use Rattle.account.specs.declared.ClosingAmounts.{ClosingAmounts}
-use Rattle.account.specs.Refusals.{isOpen, pastLastMonth, contentsRefused, openingNumber, repricingNumber, billingNumber, closingNumber}
+use Rattle.account.specs.Refusals.{isOpen, highestNext, contentsRefused, openingNumber, repricingNumber, billingNumber, closingNumber}
 use Rattle.account.specs.Account.{freshAccount, billOf, openingReply, repricingReply, billingReply, closingReply}
 use Rattle.account.proofs.Accepted.{Contents, opening-accepted, repricing-accepted, billing-accepted}
 use Rattle.ledger.specs.declared.Answer.{Answer}
@@ -29,7 +29,7 @@ use Rattle.ledger.proofs.Readings.{monthMost, total-within}
 pub record Reached (a : Account) : Type 0 where
   pub fresh : a .stage ≡ Fresh → totalOf (a .carried) + a .standing ≡ 0
   pub held : totalOf (a .carried) + a .standing ≤ a .next * monthMost
-  pub next : a .next ≤ pastLastMonth
+  pub next : a .next ≤ highestNext
   pub contents : (isOpen (a .stage) && contentsRefused (a .terms) (a .prices)) ≡ false
 
 pub fresh-reached : Reached freshAccount

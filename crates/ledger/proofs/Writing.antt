@@ -4,8 +4,9 @@ use mathlib.Core.List.{List, [], _∷_, _++_}
 use Prim.Native.Nat.{ℕ, suc, _+_, _≤_, _<_}
 use native.Mathlib.Nat.{add-zero, add-suc, suc-add}
 use native.Mathlib.Numerals.{add-one}
+use native.Mathlib.Omega.{arith}
 use lib.ListN.{length, getD, drop, set, drop-of-length-le}
-use lib.Seq.{sets, drop-cons}
+use lib.Seq.{sets, drop-cons, set-out}
 
 -- One number more is written, and the rest is still to be.
 pub put-next : (buffer row : List ℕ) (start k : ℕ) → k < length row
@@ -20,3 +21,8 @@ sets-append buffer i (x ∷ xs) ys = sets-append (set buffer i x) (suc i) xs ys 
 -- Nothing is left of a row that is written.
 pub all-put : (buffer row : List ℕ) (i k : ℕ) → length row ≤ k → sets buffer i (drop k row) ≡ buffer
 all-put buffer row i k h = rw (drop-of-length-le row h)
+
+-- Nothing is written past the end.
+pub sets-out : (buffer : List ℕ) (i : ℕ) (xs : List ℕ) → length buffer ≤ i → sets buffer i xs ≡ buffer
+sets-out buffer i [] h = refl
+sets-out buffer i (x ∷ xs) h = rw (set-out buffer i x h) (sets-out buffer (suc i) xs (omega arith))

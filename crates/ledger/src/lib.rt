@@ -1,7 +1,7 @@
 // A list of calls from the fresh account: every answer, and the last account.
 ghost use mathlib.Core.Path.{_≡_};
 ghost use mathlib.Core.Bool.{true, cond};
-ghost use Prim.Native.Nat.{_+_, _^_, _<_, min};
+ghost use Prim.Native.Nat.{_<_, min};
 ghost use lib.Dec.{eqb};
 ghost use lib.ListN.{length, getD, set};
 ghost use lib.Seq.{sets};
@@ -339,23 +339,24 @@ fn row_of(answer: Answer) -> [u64; 60]
 }
 
 // Writes a number at a place, if there is one.
-fn put(answers: &mut [u64], at: usize, value: u64)
-    ensures { λ r. ⌜ now (answers .exit) ≡ set (now (answers .entry)) at value ⌝ }
+fn put(buffer: &mut [u64], at: usize, value: u64)
+    ensures { λ r. ⌜ now (buffer .exit) ≡ set (now (buffer .entry)) at value ⌝ }
 {
-    if at < answers.len() {
-        answers[at] = value;
+    if at < buffer.len() {
+        buffer[at] = value;
     }
 }
 
-// Writes a row from a place on; what doesn't fit is left out.
-fn write_row(answers: &mut [u64], start: usize, row: &[u64; 60])
-    requires { ⌜ start < 2 ^ 63 ⌝ }
-    requires { ⌜ length (now row) ≡ 60 ⌝ }
-    ensures { λ r. ⌜ now (answers .exit) ≡ sets (now (answers .entry)) start (now (row .entry)) ⌝ }
+// Writes numbers from a place on; what doesn't fit is left out.
+pub fn write_numbers(buffer: &mut [u64], start: usize, numbers: &[u64])
+    ensures { λ r. ⌜ now (buffer .exit) ≡ sets (now (buffer .entry)) start (now (numbers .entry)) ⌝ }
 {
+    if buffer.len() <= start {
+        return;
+    }
     let mut place = 0;
-    while place < ROW {
-        put(answers, start + place, row[place]);
+    while place < numbers.len() {
+        put(buffer, start + place, numbers[place]);
         place += 1;
     }
 }
@@ -387,7 +388,7 @@ pub fn run(calls: &[u64], delivered: &[u32], received: &[u32], answers: &mut [u6
         );
         account = step.account;
         let words = row_of(step.answer);
-        write_row(answers, row, &words);
+        write_numbers(answers, row, &words[..]);
         left -= 1;
         call = end;
         taken = taken_end;

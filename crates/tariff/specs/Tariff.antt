@@ -52,6 +52,10 @@ classLimit Business = 1000000
 unfoldable pub capacityRefused : Terms → Bool
 capacityRefused t = ltb (nameplateOf t) 1 || ltb (t .limit) (nameplateOf t) || ltb (classLimit (t .class)) (nameplateOf t)
 
+abbrev pub isBanked : Rider → Bool
+isBanked Banked = true
+isBanked Bridge = false
+
 abbrev pub isBridge : Rider → Bool
 isBridge Banked = false
 isBridge Bridge = true

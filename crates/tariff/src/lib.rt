@@ -3,7 +3,7 @@ ghost use mathlib.Core.Path.{_≡_};
 ghost use mathlib.Core.Bool.{_||_};
 ghost use mathlib.Core.List.{[], _∷_};
 ghost use Rattle.tariff.specs.Tariff.{priceLimit, amountLimit, someOver, pricesRise, pricesRefused, nameplateOf, classLimit};
-ghost use Rattle.tariff.specs.Tariff.{capacityRefused, bridgeRefused, isBridge, isBusiness};
+ghost use Rattle.tariff.specs.Tariff.{capacityRefused, bridgeRefused, isBanked, isBridge, isBusiness};
 use hours::ByPeriod;
 
 // The banked rider (Rider NM) and the bridge rider (Rider NMB).
@@ -51,6 +51,15 @@ pub fn nameplate_of(terms: Terms) -> u64
     ensures { λ r. ⌜ r ≡ nameplateOf terms ⌝ }
 {
     terms.nameplate
+}
+
+pub fn is_banked(rider: Rider) -> bool
+    ensures { λ r. ⌜ r ≡ isBanked rider ⌝ }
+{
+    match rider {
+        Rider::Banked => true,
+        Rider::Bridge => false,
+    }
 }
 
 pub fn is_bridge(rider: Rider) -> bool

@@ -5,11 +5,11 @@ use lib.Seq.{set-out}
 use Rattle.ledger.proofs.put.Statement.{statement}
 use Rattle.ledger.proofs.put.Tie as tie
 
-mul-answers : tie.Need-mul-answers
-mul-answers c = search needs
+mul-buffer : tie.Need-mul-buffer
+mul-buffer c = search needs
 
-slice-write-answers : tie.Need-slice-write-answers
-slice-write-answers c = search needs
+slice-write-buffer : tie.Need-slice-write-buffer
+slice-write-buffer c = search needs
 
 same-length : tie.Need-same-length
 same-length c = search needs
@@ -21,4 +21,4 @@ returns-2 : tie.Need-returns-2
 returns-2 c = sym (set-out _ _ _ (c .if1 .left))
 
 pub put-spec : {M : Type 1} → statement M
-put-spec = tie.close (tie.spec mul-answers slice-write-answers same-length returns returns-2)
+put-spec = tie.close (tie.spec mul-buffer slice-write-buffer same-length returns returns-2)

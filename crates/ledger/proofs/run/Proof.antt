@@ -120,10 +120,11 @@ answer-call-requires c κs = (long (c .before .before .before .before .before .b
 row-of-requires : tie.Need-row-of-requires Inv-loop μ-loop
 row-of-requires c κs = search needs
 
-write-row-requires : tie.Need-write-row-requires Inv-loop μ-loop
-write-row-requires c κs =
-    let lp = c .before .before .before .before .before .before .before .before .before .before .before .before .before in
-    (omega (arith, lp .loop .inv .rows, c .before .before .before .before .before .before .before .before .before .before .before .before .loop-test .taken, lp .before .before .before .before .before .before .good), rw (c .before .before .row-of .ensures))
+slice-aggregate-write-numbers : tie.Need-slice-aggregate-write-numbers Inv-loop μ-loop
+slice-aggregate-write-numbers c = rw (c .before .before .row-of .ensures)
+
+write-numbers-requires : tie.Need-write-numbers-requires Inv-loop μ-loop
+write-numbers-requires c κs = search needs
 
 sub-left : tie.Need-sub-left Inv-loop μ-loop
 sub-left c = omega arith
@@ -149,8 +150,8 @@ loop-again c =
     (c .before .before .before .before .before .before .before .before .before .before .readings-taken2 .ensures)
     (c .before .before .before .before .before .before .before .answer-call .ensures)
     (c .before .before .before .before .before .row-of .ensures)
-    (c .before .before .write-row .ensures)
-    (c .before .before .write-row .kept .0)
+    (c .before .before .write-numbers .ensures)
+    (c .before .before .write-numbers .kept .0)
 
 same-length-2 : tie.Need-same-length-2 Inv-loop μ-loop
 same-length-2 c = omega arith
@@ -190,7 +191,8 @@ run-spec =
     part-answer-call-end-2
     answer-call-requires
     row-of-requires
-    write-row-requires
+    slice-aggregate-write-numbers
+    write-numbers-requires
     sub-left
     add-row
     loop-less

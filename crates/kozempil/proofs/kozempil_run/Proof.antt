@@ -1,0 +1,39 @@
+-- `kozempil::kozempil_run` hands on what `ledger::run` promises of every list, and writes the last account.
+use borrow.Author.Needs.{needs}
+use Rattle.kozempil.proofs.kozempil_run.Statement.{statement}
+use Rattle.kozempil.proofs.kozempil_run.Tie as tie
+
+run-requires : tie.Need-run-requires
+run-requires c κs = search needs
+
+account-row-requires : tie.Need-account-row-requires
+account-row-requires c κs = search needs
+
+slice-aggregate-write-numbers : tie.Need-slice-aggregate-write-numbers
+slice-aggregate-write-numbers c = search needs
+
+write-numbers-requires : tie.Need-write-numbers-requires
+write-numbers-requires c κs = search needs
+
+same-length : tie.Need-same-length
+same-length c = search needs
+
+same-length-2 : tie.Need-same-length-2
+same-length-2 c = search needs
+
+returns : tie.Need-returns
+returns c =
+    let ran = c .before .before .before .before .before .before .before .before .run .ensures .lent in
+    (ran .answers, rw (← (ran .account), ← (c .before .before .before .before .before .account-row .ensures)) (c .before .before .write-numbers .ensures))
+
+pub kozempil-run-spec : {M : Type 1} → statement M
+kozempil-run-spec =
+    tie.close
+    (tie.spec
+    run-requires
+    account-row-requires
+    slice-aggregate-write-numbers
+    write-numbers-requires
+    same-length
+    same-length-2
+    returns)
