@@ -1,7 +1,7 @@
 /* Kozempil: bills of net metered accounts under the banked and the bridge rider.
  *
- * Link with libkozempil.a. The one function reads and writes the lent buffers only; it keeps nothing between calls and allocates nothing
- * that the caller must free. Every input has a defined meaning.
+ * Link with libkozempil.a. The one function reads and writes the lent buffers only and keeps nothing between calls. Every input has a
+ * defined meaning.
  *
  * Energies are in Wh and powers in W. Prices are in hundred-thousandths of a dollar per kWh or per kW; basic, minimum and all other money
  * are in cents. Months count from 0, January 2000, to 1199, December 2099. "Four by period" are the amounts of period 0 (critical),
@@ -30,7 +30,7 @@ extern "C" {
 
 /* Answers a list of calls from the fresh account, and writes the account after it.
  *
- * Each buffer is a pointer and its length in elements. No two buffers may overlap.
+ * Each buffer is a pointer and its length in elements. Those that are written, answers and account, may overlap no other.
  *
  * calls: 18 numbers for each call.
  *
@@ -70,9 +70,10 @@ extern "C" {
  *                54 standing after the bill
  *     55 to 59   of a closing: 55 forfeited, four by period, 59 refunded
  *
- *     What a call doesn't return is 0. What doesn't fit is left out; what is left over stays as it was.
+ *     What a call doesn't return is 0. Numbers that don't fit the buffer are left out, and the rest of a longer one stays as it was; all
+ *     calls are answered in either case.
  *
- * account: 23 numbers, after the last call.
+ * account: 23 numbers, after the last call; too short or longer, as with answers.
  *
  *     0          stage: 0 fresh, 1 open, 2 closed
  *     1 to 5     rider, class, nameplate, demand limit, assisted

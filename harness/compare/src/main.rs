@@ -1,0 +1,46 @@
+//! Compares the proved library with the second implementation: every number of every
+//! answer and of the last account, over boundary lists, whole books, random lists and
+//! damaged buffers. Its last line is `compared N calls in M lists, 0 differences` and
+//! its exit status is 0 only then.
+//!
+//! - [`interface`]: the library's function.
+//! - [`encode`], [`meaning`]: calls, answers and account in buffers, and back.
+//! - [`compare`]: one list both ways.
+//! - [`boundary`], [`lists`], [`damage`]: what is compared.
+//! - [`rules`], [`wrong`]: variants with a mistake, each of which must be noticed.
+//! - [`met`]: what the lists must have met.
+//! - [`shrink`], [`show`]: the shortest list with a difference, in readable form.
+//! - [`session`]: all of it in turn.
+
+#![deny(unsafe_code)]
+
+mod boundary;
+mod compare;
+mod damage;
+mod encode;
+mod interface;
+mod lists;
+mod meaning;
+mod met;
+mod rules;
+mod session;
+mod show;
+mod shrink;
+mod wrong;
+
+use session::{Options, Session};
+use std::process::ExitCode;
+
+fn main() -> ExitCode {
+    let arguments: Vec<String> = std::env::args().skip(1).collect();
+    let Some(options) = Options::read(&arguments) else {
+        eprintln!("usage: compare [--seed N] [--lists N] [--show-wrong]");
+        return ExitCode::from(2);
+    };
+    let session = Session::run(&options);
+    println!("{}", session.last_line());
+    match session.is_clean() {
+        true => ExitCode::SUCCESS,
+        false => ExitCode::FAILURE,
+    }
+}

@@ -1,0 +1,197 @@
+//! A whole run: what was asked, what was compared and what came out.
+
+use crate::compare::{compare, Difference};
+use crate::damage::{self, Damaged};
+use crate::lists::{self, List};
+use crate::met::Met;
+use crate::rules::Rules;
+use crate::show;
+use crate::shrink;
+use crate::wrong::{self, Wrong};
+use harness::reference::ledger::{run, Call};
+
+/// The command line.
+#[derive(Clone, Copy, Debug)]
+pub struct Options {
+    /// First seed of the random lists.
+    pub seed: u64,
+    /// Number of random lists.
+    pub lists: u64,
+    /// Print the shortest list that shows each wrong variant.
+    pub show_wrong: bool,
+}
+
+impl Options {
+    pub fn read(arguments: &[String]) -> Option<Options> {
+        let mut options = Options {
+            seed: 1_000_000,
+            lists: 8_000,
+            show_wrong: false,
+        };
+        let mut arguments = arguments.iter();
+        while let Some(flag) = arguments.next() {
+            match flag.as_str() {
+                "--seed" => options.seed = arguments.next()?.parse().ok()?,
+                "--lists" => options.lists = arguments.next()?.parse().ok()?,
+                "--show-wrong" => options.show_wrong = true,
+                _ => return None,
+            }
+        }
+        Some(options)
+    }
+}
+
+/// Differences that are made short and printed; later ones are counted.
+const MOST_SHOWN: usize = 3;
+
+#[derive(Default)]
+pub struct Session {
+    calls: usize,
+    lists: usize,
+    differences: usize,
+    /// Wrong variants that weren't noticed, and cases that weren't met.
+    gaps: usize,
+}
+
+impl Session {
+    pub fn run(options: &Options) -> Session {
+        let mut session = Session::default();
+        session.fixed_lists(options.show_wrong);
+        session.random_lists(options.seed, options.lists);
+        session.damaged_buffers();
+        session
+    }
+
+    pub fn is_clean(&self) -> bool {
+        self.differences == 0 && self.gaps == 0
+    }
+
+    pub fn last_line(&self) -> String {
+        let line = format!(
+            "compared {} calls in {} lists, {} differences",
+            self.calls, self.lists, self.differences
+        );
+        match self.gaps {
+            0 => line,
+            gaps => format!("{line}, {gaps} gaps"),
+        }
+    }
+
+    fn report(&self, part: &str) {
+        println!("{part}: {} calls, {} lists so far", self.calls, self.lists);
+    }
+
+    fn gap(&mut self, gap: &str) {
+        self.gaps += 1;
+        println!("  gap: {gap}");
+    }
+
+    /// Boundary lists, books and some random lists. They must meet every case and show
+    /// every wrong variant.
+    fn fixed_lists(&mut self, show_wrong: bool) {
+        let mut met = Met::default();
+        let mut watch = wrong::Watch::new();
+        for list in lists::fixed() {
+            let expected = Rules::RIGHT.run(&list.calls);
+            assert!(
+                expected == run(&list.calls),
+                "the rules taken apart aren't those of the reference"
+            );
+            self.lists += 1;
+            self.calls += list.calls.len();
+            match compare(&list.calls, &expected) {
+                Err(difference) => self.difference(&list, &difference),
+                Ok(library) => {
+                    met.add(&list.calls, &library);
+                    for wrong in watch.look(&list.calls, &library) {
+                        if show_wrong {
+                            show_shortest(&wrong, &list);
+                        }
+                    }
+                }
+            }
+        }
+        self.report("boundary lists and books");
+        for case in met.missing() {
+            self.gap(&format!("no {case} was met"));
+        }
+        let all = wrong::all().len();
+        println!(
+            "noticed {} of {all} wrong variants",
+            all - watch.unnoticed.len()
+        );
+        for wrong in &watch.unnoticed {
+            self.gap(&format!("unnoticed: {}", wrong.name));
+        }
+    }
+
+    fn random_lists(&mut self, seed: u64, count: u64) {
+        for list in lists::random(seed, count) {
+            self.lists += 1;
+            self.calls += list.calls.len();
+            if let Err(difference) = compare(&list.calls, &run(&list.calls)) {
+                self.difference(&list, &difference);
+            }
+        }
+        self.report("random lists");
+    }
+
+    fn difference(&mut self, list: &List, difference: &Difference) {
+        self.differences += 1;
+        if self.differences > MOST_SHOWN {
+            return;
+        }
+        println!("difference in {}: {difference}", list.name);
+        let differs = |calls: &[Call]| compare(calls, &run(calls)).is_err();
+        let shortest = shrink::shortest(&list.calls, &differs);
+        if let Err(difference) = compare(&shortest, &run(&shortest)) {
+            println!("shortest list found, {difference}");
+        }
+        print!("{}", show::list(&shortest));
+    }
+
+    fn damaged_buffers(&mut self) {
+        let mut watch = damage::Watch::new();
+        for damaged in damage::all() {
+            let library = damaged.by_library();
+            let (calls, expected) = damaged.expected();
+            self.lists += 1;
+            self.calls += calls;
+            match Difference::between(&library, &expected) {
+                Some(difference) => self.damaged_difference(&damaged, &difference),
+                None => watch.look(&damaged, &library),
+            }
+        }
+        self.report("damaged buffers");
+        let noticed = watch.noticed();
+        println!(
+            "noticed {noticed} of {} wrong readings",
+            noticed + watch.unnoticed.len()
+        );
+        for (name, _) in &watch.unnoticed {
+            self.gap(&format!("unnoticed: {name}"));
+        }
+    }
+
+    fn damaged_difference(&mut self, damaged: &Damaged, difference: &Difference) {
+        self.differences += 1;
+        if self.differences <= MOST_SHOWN {
+            println!(
+                "difference in damaged buffers, {}: {difference}",
+                damaged.name
+            );
+            print!("{}", show::buffers(&damaged.buffers, damaged.room));
+        }
+    }
+}
+
+/// The shortest list that shows a wrong variant.
+fn show_shortest(wrong: &Wrong, list: &List) {
+    let differs = |calls: &[Call]| compare(calls, &wrong.rules.run(calls)).is_err();
+    let shortest = shrink::shortest(&list.calls, &differs);
+    println!("wrong variant: {} (noticed in {})", wrong.name, list.name);
+    if let Err(difference) = compare(&shortest, &wrong.rules.run(&shortest)) {
+        println!("  {difference}");
+    }
+    print!("{}", show::list(&shortest));
+}

@@ -1,0 +1,836 @@
+//! Deliberately wrong variants of the second implementation, each with one mistake.
+//! A comparison that doesn't notice one of them is worth nothing.
+
+use crate::compare::{Difference, Room, Written};
+use crate::rules::{settle, Rules, Settled};
+use harness::reference::account::{
+    Account, Assisted, ByPeriod, Class, PriceList, Rider, State, Terms,
+};
+use harness::reference::calendar::{days_in_month, month_of_year, DayKind, Season, JUNE};
+use harness::reference::hours::{count_critical_days, Day, Period};
+use harness::reference::ledger::Call;
+use harness::reference::refusal::{self, Refusal, LARGEST_HOME, LARGEST_PRICE, LARGEST_READING};
+use harness::reference::steps::{self, cents, Netted, Shared, ASSISTED_FREE, STANDBY_FREE};
+
+#[derive(Clone, Copy)]
+pub struct Wrong {
+    pub name: &'static str,
+    pub rules: Rules,
+}
+
+const RIGHT: Rules = Rules::RIGHT;
+
+/// All variants, in the order of the paper.
+pub fn all() -> Vec<Wrong> {
+    [hours(), energy(), money(), refusals(), accounts()]
+        .concat()
+        .into_iter()
+        .map(|(name, rules)| Wrong { name, rules })
+        .collect()
+}
+
+type Named = (&'static str, Rules);
+
+fn hours() -> Vec<Named> {
+    vec![
+        (
+            "a critical summer weekend has critical quarters",
+            Rules {
+                period: |day, quarter| match weekend_peak(day, quarter) && day.is_critical {
+                    true => Period::Critical,
+                    false => day.period(quarter),
+                },
+                ..RIGHT
+            },
+        ),
+        (
+            "a summer weekend has on-peak quarters",
+            Rules {
+                period: |day, quarter| match weekend_peak(day, quarter) && !day.is_critical {
+                    true => Period::OnPeak,
+                    false => day.period(quarter),
+                },
+                ..RIGHT
+            },
+        ),
+        (
+            "a winter weekend has no on-peak quarters",
+            Rules {
+                period: |day, quarter| match (day.kind, day.period(quarter)) {
+                    (DayKind::Weekend, Period::OnPeak) => Period::OffPeak,
+                    (_, period) => period,
+                },
+                ..RIGHT
+            },
+        ),
+        (
+            "June is summer",
+            Rules {
+                day: |month, day, critical_days| Day {
+                    season: season_with(month, 6..=9),
+                    ..Day::of(month, day, critical_days)
+                },
+                ..RIGHT
+            },
+        ),
+        (
+            "September is winter",
+            Rules {
+                day: |month, day, critical_days| Day {
+                    season: season_with(month, 7..=8),
+                    ..Day::of(month, day, critical_days)
+                },
+                ..RIGHT
+            },
+        ),
+        (
+            "winter on-peak ends a quarter late",
+            Rules {
+                period: |day, quarter| match (day.season, quarter) {
+                    (Season::Winter, 84) => day.period(83),
+                    _ => day.period(quarter),
+                },
+                ..RIGHT
+            },
+        ),
+        (
+            "summer on-peak starts a quarter early",
+            Rules {
+                period: |day, quarter| match (day.season, quarter) {
+                    (Season::Summer, 51) => day.period(52),
+                    _ => day.period(quarter),
+                },
+                ..RIGHT
+            },
+        ),
+        (
+            "discount starts a quarter late",
+            Rules {
+                period: |day, quarter| match quarter {
+                    4 => Period::OffPeak,
+                    _ => day.period(quarter),
+                },
+                ..RIGHT
+            },
+        ),
+        (
+            "bit d is day d",
+            Rules {
+                day: |month, day, critical_days| Day::of(month, day, critical_days >> 1),
+                ..RIGHT
+            },
+        ),
+        (
+            "1 January 2000 is a Sunday",
+            Rules {
+                day: |month, day, critical_days| Day {
+                    kind: Day::of(month, day + 1, 0).kind,
+                    ..Day::of(month, day, critical_days)
+                },
+                ..RIGHT
+            },
+        ),
+    ]
+}
+
+fn weekend_peak(day: Day, quarter: u32) -> bool {
+    day.season == Season::Summer && day.kind == DayKind::Weekend && (52..=71).contains(&quarter)
+}
+
+fn season_with(month: u32, summer: std::ops::RangeInclusive<u32>) -> Season {
+    match summer.contains(&month_of_year(month)) {
+        true => Season::Summer,
+        false => Season::Winter,
+    }
+}
+
+fn energy() -> Vec<Named> {
+    vec![
+        (
+            "June forfeits nothing",
+            Rules {
+                forfeited: |_, _, _| [0; 4],
+                ..RIGHT
+            },
+        ),
+        (
+            "July forfeits instead of June",
+            Rules {
+                forfeited: |rider, month, carried| {
+                    steps::forfeited(rider, (month + 11) % 12, carried)
+                },
+                ..RIGHT
+            },
+        ),
+        (
+            "June keeps nothing of its own export",
+            Rules {
+                after: |_, call, after| match call {
+                    Call::Billing { month, .. } if month_of_year(*month) == JUNE => Account {
+                        carried: [0; 4],
+                        ..after
+                    },
+                    _ => after,
+                },
+                ..RIGHT
+            },
+        ),
+        (
+            "carried Wh aren't netted",
+            Rules {
+                net: |_, exported, delivered| steps::net(&[0; 4], exported, delivered),
+                ..RIGHT
+            },
+        ),
+        (
+            "delivered Wh are netted in all periods together",
+            Rules {
+                net: netted_together,
+                ..RIGHT
+            },
+        ),
+        (
+            "cheap credit covers dear hours",
+            Rules {
+                share: |credit, need| {
+                    shared(
+                        credit,
+                        need,
+                        [(0, 1), (0, 2), (0, 3), (1, 2), (1, 3), (2, 3), (3, 2)],
+                    )
+                },
+                ..RIGHT
+            },
+        ),
+        (
+            "the cheapest need is met first",
+            Rules {
+                share: |credit, need| {
+                    shared(
+                        credit,
+                        need,
+                        [(0, 3), (0, 2), (0, 1), (1, 3), (1, 2), (2, 3)],
+                    )
+                },
+                ..RIGHT
+            },
+        ),
+        (
+            "the cheapest credit is spent first",
+            Rules {
+                share: |credit, need| {
+                    shared(
+                        credit,
+                        need,
+                        [(2, 3), (1, 2), (1, 3), (0, 1), (0, 2), (0, 3)],
+                    )
+                },
+                ..RIGHT
+            },
+        ),
+        (
+            "credit moves to the next period only",
+            Rules {
+                share: |credit, need| shared(credit, need, [(0, 1), (1, 2), (2, 3)]),
+                ..RIGHT
+            },
+        ),
+        (
+            "the bridge rider carries credit",
+            Rules {
+                left: |_, unspent| *unspent,
+                paid: |_, _| [0; 4],
+                ..RIGHT
+            },
+        ),
+        (
+            "the banked rider pays credit",
+            Rules {
+                left: |_, _| [0; 4],
+                paid: |_, unspent| *unspent,
+                ..RIGHT
+            },
+        ),
+    ]
+}
+
+fn netted_together(carried: &ByPeriod, exported: &ByPeriod, delivered: &ByPeriod) -> Netted {
+    let mut netted = steps::net(carried, exported, delivered);
+    for from in 0..4 {
+        for to in 0..4 {
+            let met = netted.credit[from].min(netted.need[to]);
+            netted.credit[from] -= met;
+            netted.need[to] -= met;
+            netted.own[to] += met;
+        }
+    }
+    netted
+}
+
+/// Step 4 with other pairs of periods, or in another order.
+fn shared<const PAIRS: usize>(
+    credit: &ByPeriod,
+    need: &ByPeriod,
+    pairs: [(usize, usize); PAIRS],
+) -> Shared {
+    let mut shared = Shared {
+        unspent: *credit,
+        billed: *need,
+        ..Shared::default()
+    };
+    for (from, to) in pairs {
+        let moved = shared.unspent[from].min(shared.billed[to]);
+        shared.unspent[from] -= moved;
+        shared.billed[to] -= moved;
+        shared.moved_out[from] += moved;
+        shared.moved_in[to] += moved;
+    }
+    shared
+}
+
+fn product(quantity: u64, price: u32) -> u128 {
+    u128::from(quantity) * u128::from(price)
+}
+
+fn money() -> Vec<Named> {
+    vec![
+        (
+            "energy is rounded by period",
+            Rules {
+                energy: |prices, billed| {
+                    (0..4)
+                        .map(|period| cents(product(billed[period], prices.energy[period])))
+                        .sum()
+                },
+                ..RIGHT
+            },
+        ),
+        (
+            "energy is rounded down",
+            Rules {
+                energy: |prices, billed| {
+                    let sum: u128 = (0..4)
+                        .map(|period| product(billed[period], prices.energy[period]))
+                        .sum();
+                    (sum / 1_000_000) as u64
+                },
+                ..RIGHT
+            },
+        ),
+        (
+            "a half cent is rounded down",
+            Rules {
+                granted: |prices, paid| {
+                    let sum = product(paid.iter().sum(), prices.credit);
+                    cents(sum.saturating_sub(1))
+                },
+                ..RIGHT
+            },
+        ),
+        (
+            "demand counts off-peak readings",
+            Rules {
+                demand: |prices, largest| {
+                    (RIGHT.demand)(prices, &[largest[0], largest[1].max(largest[2]), 0, 0])
+                },
+                ..RIGHT
+            },
+        ),
+        (
+            "demand leaves out critical readings",
+            Rules {
+                demand: |prices, largest| (RIGHT.demand)(prices, &[0, largest[1], 0, 0]),
+                ..RIGHT
+            },
+        ),
+        (
+            "demand isn't four times the reading",
+            Rules {
+                demand: |prices, largest| cents(product(largest[0].max(largest[1]), prices.demand)),
+                ..RIGHT
+            },
+        ),
+        (
+            "standby from 100,000 W on",
+            Rules {
+                standby: |terms, prices| match (terms.class, terms.nameplate) {
+                    (Class::Business, STANDBY_FREE) => {
+                        cents(product(u64::from(STANDBY_FREE), prices.standby))
+                    }
+                    _ => steps::standby(terms, prices),
+                },
+                ..RIGHT
+            },
+        ),
+        (
+            "bypass under the banked rider",
+            Rules {
+                bypass: |terms, prices| {
+                    let bridge = Terms {
+                        rider: Rider::Bridge,
+                        ..*terms
+                    };
+                    steps::bypass(&bridge, prices)
+                },
+                ..RIGHT
+            },
+        ),
+        (
+            "an assisted home of 8,000 W isn't spared",
+            Rules {
+                shortfall: |terms, prices, billed| {
+                    let spared = terms.nameplate < ASSISTED_FREE;
+                    steps::shortfall(&assisted_if(terms, spared), prices, billed)
+                },
+                ..RIGHT
+            },
+        ),
+        (
+            "an assisted home of 8,001 W is spared",
+            Rules {
+                shortfall: |terms, prices, billed| match terms.nameplate {
+                    8_001 if terms.assisted == Assisted::Yes => 0,
+                    _ => steps::shortfall(terms, prices, billed),
+                },
+                ..RIGHT
+            },
+        ),
+        (
+            "shortfall without basic",
+            Rules {
+                shortfall: |terms, prices, billed| {
+                    let without = PriceList {
+                        basic: 0,
+                        ..*prices
+                    };
+                    steps::shortfall(terms, &without, billed)
+                },
+                ..RIGHT
+            },
+        ),
+        (
+            "shortfall under the banked rider",
+            Rules {
+                shortfall: |terms, prices, billed| {
+                    let bridge = Terms {
+                        rider: Rider::Bridge,
+                        ..*terms
+                    };
+                    steps::shortfall(&bridge, prices, billed)
+                },
+                ..RIGHT
+            },
+        ),
+        (
+            "granted is rounded by period",
+            Rules {
+                granted: |prices, paid| {
+                    paid.iter()
+                        .map(|&wh| cents(product(wh, prices.credit)))
+                        .sum()
+                },
+                ..RIGHT
+            },
+        ),
+        (
+            "June drops the standing money under the bridge rider",
+            Rules {
+                brought: |account, month| match account.terms.rider {
+                    Rider::Bridge if month_of_year(month) == JUNE => 0,
+                    _ => account.standing,
+                },
+                ..RIGHT
+            },
+        ),
+        (
+            "due is a cent more where money was used",
+            Rules {
+                settle: |gross, money| {
+                    let right = settle(gross, money);
+                    let more = u64::from(right.used > 0 && right.due > 0);
+                    Settled {
+                        due: right.due + more,
+                        ..right
+                    }
+                },
+                ..RIGHT
+            },
+        ),
+        (
+            "money over is lost",
+            Rules {
+                settle: |gross, money| Settled {
+                    standing: 0,
+                    ..settle(gross, money)
+                },
+                ..RIGHT
+            },
+        ),
+    ]
+}
+
+fn assisted_if(terms: &Terms, spared: bool) -> Terms {
+    let assisted = match spared {
+        true => terms.assisted,
+        false => Assisted::No,
+    };
+    Terms { assisted, ..*terms }
+}
+
+fn refusals() -> Vec<Named> {
+    [refusals_of_openings(), refusals_of_billings()].concat()
+}
+
+fn refusals_of_openings() -> Vec<Named> {
+    vec![
+        (
+            "5 comes before 4",
+            Rules {
+                of_opening: |account, terms, list, month| {
+                    let capacity =
+                        refusal::of_opening(account, terms, &PriceList::default(), month);
+                    capacity
+                        .filter(|&refusal| refusal == Refusal::Capacity)
+                        .or_else(|| refusal::of_opening(account, terms, list, month))
+                },
+                ..RIGHT
+            },
+        ),
+        (
+            "6 comes before 5",
+            Rules {
+                of_opening: |account, terms, list, month| {
+                    let smallest = Terms {
+                        nameplate: 1,
+                        demand_limit: 1,
+                        ..*terms
+                    };
+                    refusal::of_opening(account, &smallest, list, month)
+                        .filter(|&refusal| refusal == Refusal::NoBridge)
+                        .or_else(|| refusal::of_opening(account, terms, list, month))
+                },
+                ..RIGHT
+            },
+        ),
+        (
+            "a home of 20,001 W is accepted",
+            Rules {
+                of_opening: |account, terms, list, month| {
+                    let mut terms = *terms;
+                    if terms.class == Class::Home && terms.nameplate == LARGEST_HOME + 1 {
+                        terms.nameplate -= 1;
+                        terms.demand_limit = terms.demand_limit.saturating_sub(1);
+                    }
+                    refusal::of_opening(account, &terms, list, month)
+                },
+                ..RIGHT
+            },
+        ),
+        (
+            "a nameplate of the demand limit is refused",
+            Rules {
+                of_opening: |account, terms, list, month| {
+                    let terms = Terms {
+                        demand_limit: terms.demand_limit.saturating_sub(1),
+                        ..*terms
+                    };
+                    refusal::of_opening(account, &terms, list, month)
+                },
+                ..RIGHT
+            },
+        ),
+        (
+            "a minimum of 1,000,001 is accepted",
+            Rules {
+                of_opening: |account, terms, list, month| {
+                    let mut list = *list;
+                    if list.minimum == LARGEST_PRICE + 1 {
+                        list.minimum = LARGEST_PRICE;
+                    }
+                    refusal::of_opening(account, terms, &list, month)
+                },
+                ..RIGHT
+            },
+        ),
+        (
+            "equal prices count as rising",
+            Rules {
+                of_repricing: |account, list| {
+                    let equal = list.energy.windows(2).any(|pair| pair[0] == pair[1]);
+                    refusal::of_repricing(account, list)
+                        .or_else(|| equal.then_some(Refusal::PriceList))
+                },
+                ..RIGHT
+            },
+        ),
+        (
+            "an opening in month 1200 is accepted",
+            Rules {
+                of_opening: |account, terms, list, month| {
+                    let month = if month == 1200 { 1199 } else { month };
+                    refusal::of_opening(account, terms, list, month)
+                },
+                ..RIGHT
+            },
+        ),
+        (
+            "a closed account is opened again",
+            Rules {
+                of_opening: |account, terms, list, month| {
+                    let account = match account.state {
+                        State::Closed => Account::default(),
+                        _ => *account,
+                    };
+                    refusal::of_opening(&account, terms, list, month)
+                },
+                ..RIGHT
+            },
+        ),
+        (
+            "a closed account answers 1 to a closing",
+            Rules {
+                of_closing: |account| match account.state {
+                    State::Closed => Some(Refusal::NotOpen),
+                    _ => refusal::of_closing(account),
+                },
+                ..RIGHT
+            },
+        ),
+    ]
+}
+
+fn refusals_of_billings() -> Vec<Named> {
+    vec![
+        (
+            "7 comes before 11",
+            Rules {
+                of_billing: |account, month, delivered, received, critical_days| match refusal_of(
+                    account,
+                    month,
+                    delivered,
+                    received,
+                    critical_days,
+                ) {
+                    Some(Refusal::BookFull) if month != account.next_month => Some(Refusal::Month),
+                    right => right,
+                },
+                ..RIGHT
+            },
+        ),
+        (
+            "10 comes before 9",
+            Rules {
+                of_billing: |account, month, delivered, received, critical_days| {
+                    refusal_of(account, month, delivered, received, 0)
+                        .filter(|&refusal| refusal == Refusal::Reading)
+                        .or_else(|| refusal_of(account, month, delivered, received, critical_days))
+                },
+                ..RIGHT
+            },
+        ),
+        (
+            "February 2000 has 28 days",
+            Rules {
+                of_billing: |account, month, delivered, received, critical_days| {
+                    let february_2001 = Account {
+                        next_month: 13,
+                        ..*account
+                    };
+                    match account.next_month == 1 && month == 1 {
+                        true => refusal_of(&february_2001, 13, delivered, received, critical_days),
+                        false => refusal_of(account, month, delivered, received, critical_days),
+                    }
+                },
+                ..RIGHT
+            },
+        ),
+        (
+            "a received register one reading too long is accepted",
+            Rules {
+                of_billing: |account, month, delivered, received, critical_days| {
+                    let fits = received.len() == 96 * days_in_month(month) as usize + 1;
+                    let received = &received[..received.len() - usize::from(fits)];
+                    refusal_of(account, month, delivered, received, critical_days)
+                },
+                ..RIGHT
+            },
+        ),
+        (
+            "eleven critical days are accepted",
+            Rules {
+                of_billing: |account, month, delivered, received, critical_days| {
+                    let fewer = match count_critical_days(critical_days) {
+                        11 => critical_days & (critical_days - 1),
+                        _ => critical_days,
+                    };
+                    refusal_of(account, month, delivered, received, fewer)
+                },
+                ..RIGHT
+            },
+        ),
+        (
+            "ten critical days are refused",
+            Rules {
+                of_billing: |account, month, delivered, received, critical_days| {
+                    let more = match count_critical_days(critical_days) {
+                        10 => critical_days | (critical_days + 1),
+                        _ => critical_days,
+                    };
+                    refusal_of(account, month, delivered, received, more)
+                },
+                ..RIGHT
+            },
+        ),
+        (
+            "a critical day past the month is accepted",
+            Rules {
+                of_billing: |account, month, delivered, received, critical_days| {
+                    let in_month = critical_days & !(u32::MAX << days_in_month(month));
+                    refusal_of(account, month, delivered, received, in_month)
+                },
+                ..RIGHT
+            },
+        ),
+        (
+            "a reading of 1,000,000 is refused",
+            Rules {
+                of_billing: |account, month, delivered, received, critical_days| {
+                    let largest = delivered.iter().chain(received).max();
+                    refusal_of(account, month, delivered, received, critical_days)
+                        .or_else(|| (largest == Some(&LARGEST_READING)).then_some(Refusal::Reading))
+                },
+                ..RIGHT
+            },
+        ),
+        (
+            "a reading of 1,000,001 is accepted",
+            Rules {
+                of_billing: |account, month, delivered, received, critical_days| {
+                    let largest = delivered.iter().chain(received).max();
+                    refusal_of(account, month, delivered, received, critical_days).filter(
+                        |&refusal| {
+                            refusal != Refusal::Reading || largest != Some(&(LARGEST_READING + 1))
+                        },
+                    )
+                },
+                ..RIGHT
+            },
+        ),
+        (
+            "large received readings are accepted",
+            Rules {
+                of_billing: |account, month, delivered, received, critical_days| {
+                    let received: Vec<u32> = received
+                        .iter()
+                        .map(|&reading| reading.min(LARGEST_READING))
+                        .collect();
+                    refusal_of(account, month, delivered, &received, critical_days)
+                },
+                ..RIGHT
+            },
+        ),
+    ]
+}
+
+fn refusal_of(
+    account: &Account,
+    month: u32,
+    delivered: &[u32],
+    received: &[u32],
+    critical_days: u32,
+) -> Option<Refusal> {
+    refusal::of_billing(account, month, delivered, received, critical_days)
+}
+
+fn accounts() -> Vec<Named> {
+    vec![
+        (
+            "a refused bill takes the month",
+            Rules {
+                after: |before, call, after| match call {
+                    Call::Billing { .. } if after == *before && before.state == State::Open => {
+                        Account {
+                            next_month: before.next_month + 1,
+                            ..after
+                        }
+                    }
+                    _ => after,
+                },
+                ..RIGHT
+            },
+        ),
+        (
+            "a refused repricing is kept",
+            Rules {
+                after: |before, call, after| match call {
+                    Call::Repricing { price_list } if before.state == State::Open => Account {
+                        price_list: *price_list,
+                        ..after
+                    },
+                    _ => after,
+                },
+                ..RIGHT
+            },
+        ),
+        (
+            "a closing clears the terms",
+            Rules {
+                after: |_, call, after| match call {
+                    Call::Closing => Account {
+                        terms: Terms::default(),
+                        ..after
+                    },
+                    _ => after,
+                },
+                ..RIGHT
+            },
+        ),
+        (
+            "a closing keeps the carried Wh",
+            Rules {
+                after: |before, call, after| match call {
+                    Call::Closing => Account {
+                        carried: before.carried,
+                        ..after
+                    },
+                    _ => after,
+                },
+                ..RIGHT
+            },
+        ),
+        (
+            "a closing keeps the standing money",
+            Rules {
+                after: |before, call, after| match call {
+                    Call::Closing => Account {
+                        standing: before.standing,
+                        ..after
+                    },
+                    _ => after,
+                },
+                ..RIGHT
+            },
+        ),
+    ]
+}
+
+/// The variants that no list has shown to be wrong yet.
+pub struct Watch {
+    pub unnoticed: Vec<Wrong>,
+}
+
+impl Watch {
+    pub fn new() -> Watch {
+        Watch { unnoticed: all() }
+    }
+
+    /// Strikes out and returns each variant whose run of the list isn't the library's.
+    pub fn look(&mut self, calls: &[Call], library: &Written) -> Vec<Wrong> {
+        let room = Room::for_calls(calls.len());
+        let is_noticed = |wrong: &mut Wrong| {
+            let expected = Written::expected(&wrong.rules.run(calls), room);
+            Difference::between(library, &expected).is_some()
+        };
+        self.unnoticed.extract_if(.., is_noticed).collect()
+    }
+}
