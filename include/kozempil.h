@@ -1,7 +1,7 @@
 /* Kozempil: bills of net metered accounts under the banked and the bridge rider.
  *
- * Link with libkozempil.a. The one function reads and writes the lent buffers only and keeps nothing between calls. Every input has a
- * defined meaning.
+ * Link with libkozempil.a. The functions read and write the lent buffers only and keep nothing between calls. Every input has a defined
+ * meaning.
  *
  * Energies are in Wh and powers in W. Prices are in hundred-thousandths of a dollar per kWh or per kW; basic, minimum and all other money
  * are in cents. Months count from 0, January 2000, to 1199, December 2099. "Four by period" are the amounts of period 0 (critical),
@@ -88,6 +88,40 @@ void kozempil_run(
     const uint32_t *received, size_t received_len,
     uint64_t *answers, size_t answers_len,
     uint64_t *account, size_t account_len);
+
+/* Answers one call on any account, and writes the account after it: 1, or 0 where the numbers are no account or no call, and then nothing
+ * is written. An account that can't arise from a fresh one is refused by number 3 or answered like any other, as the table of refusals says.
+ *
+ * account: the 23 numbers above. They are no account where there are more or fewer of them, or where a stage, rider, class or assisted is
+ *     unknown, or the next month has more than 32 bits.
+ *
+ * call: the 18 numbers above, no more and no fewer.
+ *
+ * delivered, received: the readings of a billing. All that are lent are taken; numbers 2 and 3 of the call aren't read.
+ *
+ * answer, after: 60 and 23 numbers; too short or longer, as above. They may overlap no other buffer.
+ */
+uint32_t kozempil_call(
+    const uint64_t *account, size_t account_len,
+    const uint64_t *call, size_t call_len,
+    const uint32_t *delivered, size_t delivered_len,
+    const uint32_t *received, size_t received_len,
+    uint64_t *answer, size_t answer_len,
+    uint64_t *after, size_t after_len);
+
+/* Writes where the readings of one day are in a register: 96 readings, or none where the month is above 1199, the day isn't in the month
+ * (1 is its first), a register has another length than the month's, or the register number isn't 0 (delivered) or 1 (received).
+ *
+ * part: 2 numbers, too short or longer, as above. It may overlap no other buffer.
+ *
+ *     0          start: the readings before it in the register named; 0 where there are none
+ *     1          length
+ */
+void kozempil_day_view(
+    const uint32_t *delivered, size_t delivered_len,
+    const uint32_t *received, size_t received_len,
+    uint32_t month, uint32_t day, uint32_t number,
+    uint64_t *part, size_t part_len);
 
 #ifdef __cplusplus
 }

@@ -1,14 +1,24 @@
 // The interface for C and Rust. include/kozempil.h says what each number of each buffer is.
 ghost use mathlib.Core.Path.{_≡_};
+ghost use mathlib.Core.Bool.{true, cond};
+ghost use Prim.Native.Nat.{_<_, _^_};
+ghost use lib.ListN.{length, getD};
 ghost use lib.Seq.{sets};
+ghost use Rattle.registers.specs.DayView.{viewOf};
 ghost use Rattle.account.specs.Account.{freshAccount};
-ghost use Rattle.ledger.specs.Ledger.{answersOf, lastOf};
-ghost use Rattle.ledger.specs.Encoding.{riderCode, classCode, yesCode, callsIn, rowsOf};
-ghost use Rattle.kozempil.specs.Interface.{stageCode, accountRow};
+ghost use Rattle.ledger.specs.Ledger.{answerOf, accountAfter, answersOf, lastOf};
+ghost use Rattle.ledger.specs.Encoding.{riderCode, classCode, yesCode, callOf, callsIn, rowOf, rowsOf};
+ghost use Rattle.kozempil.specs.Interface.{stageCode, accountRow, isAccount, stageAt, accountAt, isAnswered, partNumbers};
 use account::Account;
 use account::Stage;
 use tariff::Class;
 use tariff::Rider;
+
+// The numbers of an account.
+const ACCOUNT: usize = 23;
+
+// The first number of more than 32 bits.
+const LIMIT_32: u64 = 0x1_0000_0000;
 
 fn stage_code(stage: Stage) -> u64
     ensures { λ r. ⌜ r ≡ stageCode stage ⌝ }
@@ -98,4 +108,113 @@ pub extern "C" fn kozempil_run(
     let last = ledger::run(calls, delivered, received, answers);
     let row = account_row(last);
     ledger::write_numbers(account, 0, &row[..]);
+}
+
+fn stage_at(code: u64) -> Stage
+    ensures { λ r. ⌜ r ≡ stageAt code ⌝ }
+{
+    if code == 0 {
+        return Stage::Fresh;
+    }
+    if code == 1 {
+        return Stage::Open;
+    }
+    Stage::Closed
+}
+
+// Whether numbers are an account.
+fn is_account(words: &[u64]) -> bool
+    ensures { λ r. ⌜ r ≡ isAccount (now (words .entry)) ⌝ }
+{
+    if words.len() != ACCOUNT {
+        return false;
+    }
+    if 2 < words[0] {
+        return false;
+    }
+    if 1 < words[1] {
+        return false;
+    }
+    if 1 < words[2] {
+        return false;
+    }
+    if 1 < words[5] {
+        return false;
+    }
+    words[17] < LIMIT_32
+}
+
+// The account of its numbers.
+fn account_at(words: &[u64]) -> Account
+    requires { ⌜ length (now words) ≡ 23 ⌝ }
+    requires { ⌜ getD (now words) 17 0 < 2 ^ 32 ⌝ }
+    ensures { λ r. ⌜ r ≡ accountAt (now (words .entry)) ⌝ }
+{
+    let stage = stage_at(words[0]);
+    let terms = ledger::terms_at(words);
+    let prices = ledger::prices_at(words);
+    let next = words[17] as u32;
+    let carried = ledger::four_at(words, 18);
+    let standing = words[22];
+    Account {
+        stage,
+        terms,
+        prices,
+        next,
+        carried,
+        standing,
+    }
+}
+
+// Answers one call on any account; 1 where the numbers are an account and a call, else 0 and nothing is written.
+#[no_mangle]
+pub extern "C" fn kozempil_call(
+    account: &[u64],
+    call: &[u64],
+    delivered: &[u32],
+    received: &[u32],
+    answer: &mut [u64],
+    after: &mut [u64],
+) -> u32
+    ensures { λ r. ⌜ r ≡ cond (isAnswered (now (account .entry)) (now (call .entry))) 1 0 ⌝ }
+    ensures { λ r. ⌜ now (answer .exit) ≡ cond (isAnswered (now (account .entry)) (now (call .entry))) (sets (now (answer .entry)) 0 (rowOf (answerOf (accountAt (now (account .entry))) (callOf (now (call .entry)) (now (delivered .entry)) (now (received .entry)))))) (now (answer .entry)) ⌝ }
+    ensures { λ r. ⌜ now (after .exit) ≡ cond (isAnswered (now (account .entry)) (now (call .entry))) (sets (now (after .entry)) 0 (accountRow (accountAfter (accountAt (now (account .entry))) (callOf (now (call .entry)) (now (delivered .entry)) (now (received .entry)))))) (now (after .entry)) ⌝ }
+{
+    if is_account(account) {
+        let before = account_at(account);
+        let answered = ledger::answer_record(before, call, delivered, received);
+        if answered.known {
+            let last = answered.account;
+            let reply = answered.answer;
+            let account_numbers = account_row(last);
+            let answer_numbers = ledger::row_of(reply);
+            ledger::write_numbers(answer, 0, &answer_numbers[..]);
+            ledger::write_numbers(after, 0, &account_numbers[..]);
+            return 1;
+        }
+    }
+    0
+}
+
+// Where the day view is in the register named: its start and length, both 0 where it is empty.
+#[no_mangle]
+pub extern "C" fn kozempil_day_view(
+    delivered: &[u32],
+    received: &[u32],
+    month: u32,
+    day: u32,
+    number: u32,
+    part: &mut [u64],
+)
+    ensures { λ r. ⌜ now (part .exit) ≡ sets (now (part .entry)) 0 (partNumbers (viewOf (delivered .entry) (received .entry) month day number)) ⌝ }
+{
+    if registers::empty_view(delivered, received, month, day, number) {
+        let numbers = [0u64, 0u64];
+        ledger::write_numbers(part, 0, &numbers[..]);
+        return;
+    }
+    let start = calendar::readings_through(month, day - 1) as u64;
+    let count = calendar::day_length(month, day) as u64;
+    let numbers = [start, count];
+    ledger::write_numbers(part, 0, &numbers[..]);
 }

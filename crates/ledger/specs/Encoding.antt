@@ -3,7 +3,7 @@
 use mathlib.Core.Path.{_≡_}
 use mathlib.Core.Bool.{Bool, true, false, cond, _&&_}
 use mathlib.Core.List.{List, [], _∷_, _++_}
-use Prim.Native.Nat.{ℕ, zero, suc, _/_, _^_, _<_}
+use Prim.Native.Nat.{ℕ, zero, suc, _+_, _/_, _^_, _<_}
 use lib.Dec.{eqb, leb, ltb}
 use lib.ListN.{length, getD, take, drop}
 use Rattle.hours.specs.declared.ByPeriod.{ByPeriod}
@@ -14,8 +14,11 @@ use Rattle.tariff.specs.declared.Class.the-variants.{Home, Business}
 use Rattle.tariff.specs.declared.Terms.{Terms}
 use Rattle.tariff.specs.declared.PriceList.{PriceList}
 use Rattle.charges.specs.declared.Charges.{Charges}
+use Rattle.billing.specs.Billing.{noBill}
+use Rattle.account.specs.declared.Account.{Account}
 use Rattle.ledger.specs.declared.Answer.{Answer}
-use Rattle.ledger.specs.Ledger.{Call, opening, repricing, billing, closing}
+use Rattle.ledger.specs.declared.Answered.{Answered}
+use Rattle.ledger.specs.Ledger.{Call, opening, repricing, billing, closing, noAmounts, answerOf, accountAfter}
 
 -- Number 0 of a record is the kind of call: 0 opening, 1 repricing, 2 billing, 3 closing.
 abbrev pub kindOf : List ℕ → ℕ
@@ -45,11 +48,15 @@ termsAt w =
       assisted = eqb (getD w 5 0) 1;
     }
 
+-- Four amounts by period, from a place on.
+abbrev pub fourAt : List ℕ → ℕ → ByPeriod
+fourAt w i = record { critical = getD w i 0; onpeak = getD w (i + 1) 0; offpeak = getD w (i + 2) 0; discount = getD w (i + 3) 0 }
+
 -- A repricing has its price list at the same places.
 abbrev pub pricesAt : List ℕ → PriceList
 pricesAt w =
     record {
-      energy = record { critical = getD w 6 0; onpeak = getD w 7 0; offpeak = getD w 8 0; discount = getD w 9 0 };
+      energy = fourAt w 6;
       demand = getD w 10 0;
       standby = getD w 11 0;
       bypass = getD w 12 0;
@@ -169,3 +176,18 @@ rowOf x =
 unfoldable pub rowsOf : List Answer → List ℕ
 rowsOf [] = []
 rowsOf (x ∷ xs) = rowOf x ++ rowsOf xs
+
+-- An answer with 0 in all.
+abbrev pub noAnswer : Answer
+noAnswer = record { number = 0; bill = noBill; amounts = noAmounts }
+
+-- The answer to one record on an account: where the record is no call of eighteen numbers, the account as it came and no answer.
+unfoldable pub answeredOf : Account → List ℕ → List ℕ → List ℕ → Answered
+answeredOf a w delivered received =
+    cond (eqb (length w) 18 && isCall w)
+    (record {
+      known = true;
+      account = accountAfter a (callOf w delivered received);
+      answer = answerOf a (callOf w delivered received);
+    })
+    (record { known = false; account = a; answer = noAnswer })

@@ -8,7 +8,7 @@ ghost use lib.Seq.{sets};
 ghost use Rattle.tariff.specs.declared.Rider.the-variants.{Banked, Bridge};
 ghost use Rattle.tariff.specs.declared.Class.the-variants.{Home, Business};
 ghost use Rattle.ledger.specs.Ledger.{opening, repricing, billing, closing};
-ghost use Rattle.ledger.specs.Encoding.{kindOf, termsAt, pricesAt, openingCodes, billingCodes, isCall, callOf, rowOf};
+ghost use Rattle.ledger.specs.Encoding.{kindOf, termsAt, fourAt, pricesAt, openingCodes, billingCodes, isCall, callOf, answeredOf, rowOf};
 ghost use Rattle.ledger.specs.DemandThree.{DemandThree};
 ghost use Rattle.ledger.specs.Running.{plainAnswer, stepOf};
 use account::Account;
@@ -44,6 +44,13 @@ pub struct Answer {
     pub amounts: ClosingAmounts,
 }
 
+// The answer to one record, and the account after it; known is false where the record is no call.
+pub struct Answered {
+    pub known: bool,
+    pub account: Account,
+    pub answer: Answer,
+}
+
 // An answer, and the account after it.
 struct Step {
     account: Account,
@@ -70,41 +77,74 @@ fn class_at(code: u64) -> Class
     }
 }
 
-// The terms of an opening.
-fn terms_at(call: &[u64]) -> Terms
-    requires { ⌜ length (now call) ≡ 18 ⌝ }
-    ensures { λ r. ⌜ r ≡ termsAt (now (call .entry)) ⌝ }
+// The number at a place of a record, or 0 past its end.
+pub fn number_at(words: &[u64], place: usize) -> u64
+    ensures { λ r. ⌜ r ≡ getD (now (words .entry)) place 0 ⌝ }
 {
-    let rider = rider_at(call[1]);
-    let class = class_at(call[2]);
+    if place < words.len() {
+        return words[place];
+    }
+    0
+}
+
+// The terms of an opening.
+pub fn terms_at(words: &[u64]) -> Terms
+    ensures { λ r. ⌜ r ≡ termsAt (now (words .entry)) ⌝ }
+{
+    let rider = rider_at(number_at(words, 1));
+    let class = class_at(number_at(words, 2));
+    let nameplate = number_at(words, 3);
+    let limit = number_at(words, 4);
+    let assisted = number_at(words, 5) == 1;
     Terms {
         rider,
         class,
-        nameplate: call[3],
-        limit: call[4],
-        assisted: call[5] == 1,
+        nameplate,
+        limit,
+        assisted,
+    }
+}
+
+// Four amounts at places that follow one another.
+pub fn four_at(words: &[u64], place: usize) -> ByPeriod
+    ensures { λ r. ⌜ r ≡ fourAt (now (words .entry)) place ⌝ }
+{
+    if words.len() <= place {
+        return billing::no_energy();
+    }
+    let critical = number_at(words, place);
+    let onpeak = number_at(words, place + 1);
+    let offpeak = number_at(words, place + 2);
+    let discount = number_at(words, place + 3);
+    ByPeriod {
+        critical,
+        onpeak,
+        offpeak,
+        discount,
     }
 }
 
 // The price list of an opening or a repricing.
-fn prices_at(call: &[u64]) -> PriceList
-    requires { ⌜ length (now call) ≡ 18 ⌝ }
-    ensures { λ r. ⌜ r ≡ pricesAt (now (call .entry)) ⌝ }
+pub fn prices_at(words: &[u64]) -> PriceList
+    ensures { λ r. ⌜ r ≡ pricesAt (now (words .entry)) ⌝ }
 {
+    let energy = four_at(words, 6);
+    let demand = number_at(words, 10);
+    let standby = number_at(words, 11);
+    let bypass = number_at(words, 12);
+    let credit = number_at(words, 13);
+    let distribution = number_at(words, 14);
+    let basic = number_at(words, 15);
+    let minimum = number_at(words, 16);
     PriceList {
-        energy: ByPeriod {
-            critical: call[6],
-            onpeak: call[7],
-            offpeak: call[8],
-            discount: call[9],
-        },
-        demand: call[10],
-        standby: call[11],
-        bypass: call[12],
-        credit: call[13],
-        distribution: call[14],
-        basic: call[15],
-        minimum: call[16],
+        energy,
+        demand,
+        standby,
+        bypass,
+        credit,
+        distribution,
+        basic,
+        minimum,
     }
 }
 
@@ -267,8 +307,43 @@ fn answer_call(account: Account, call: &[u64], delivered: &[u32], received: &[u3
     answer_closing(account)
 }
 
+// The answer to a record on any account.
+pub fn answer_record(
+    account: Account,
+    call: &[u64],
+    delivered: &[u32],
+    received: &[u32],
+) -> Answered
+    ensures { λ r. ⌜ r ≡ answeredOf account (now (call .entry)) (now (delivered .entry)) (now (received .entry)) ⌝ }
+{
+    if call.len() != RECORD {
+        let answer = plain_answer(0);
+        return Answered {
+            known: false,
+            account,
+            answer,
+        };
+    }
+    if is_call(call) {
+        let step = answer_call(account, call, delivered, received);
+        let after = step.account;
+        let answer = step.answer;
+        return Answered {
+            known: true,
+            account: after,
+            answer,
+        };
+    }
+    let answer = plain_answer(0);
+    Answered {
+        known: false,
+        account,
+        answer,
+    }
+}
+
 // The sixty numbers of an answer.
-fn row_of(answer: Answer) -> [u64; 60]
+pub fn row_of(answer: Answer) -> [u64; 60]
     ensures { λ r. ⌜ r ≡ rowOf answer ⌝ }
 {
     let b = answer.bill;

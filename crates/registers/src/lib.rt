@@ -203,7 +203,7 @@ pub fn tally_of(schedule: &[u8; 384], register: &[u32], month: u32, critical_day
 }
 
 // Whether the day view is empty: no such month, day or register, or a register of another length than the month's.
-fn empty_view(delivered: &[u32], received: &[u32], month: u32, day: u32, number: u32) -> bool
+pub fn empty_view(delivered: &[u32], received: &[u32], month: u32, day: u32, number: u32) -> bool
     ensures { λ r. ⌜ r ≡ emptyView (now (delivered .entry)) (now (received .entry)) month day number ⌝ }
 {
     if calendar::LAST_MONTH < month {

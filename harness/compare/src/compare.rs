@@ -36,7 +36,7 @@ pub struct Written {
 }
 
 impl Written {
-    fn untouched(room: Room) -> Written {
+    pub fn untouched(room: Room) -> Written {
         Written {
             answers: vec![UNTOUCHED; room.answers],
             account: vec![UNTOUCHED; room.account],

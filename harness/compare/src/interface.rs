@@ -1,5 +1,5 @@
-//! The proved library: its one function, as `include/kozempil.h` declares it, and a
-//! safe way to call it.
+//! The proved library: its functions, as `include/kozempil.h` declares them, and a
+//! safe way to call each.
 
 #![allow(unsafe_code)]
 
@@ -15,6 +15,31 @@ unsafe extern "C" {
         answers_len: usize,
         account: *mut u64,
         account_len: usize,
+    );
+    fn kozempil_call(
+        account: *const u64,
+        account_len: usize,
+        call: *const u64,
+        call_len: usize,
+        delivered: *const u32,
+        delivered_len: usize,
+        received: *const u32,
+        received_len: usize,
+        answer: *mut u64,
+        answer_len: usize,
+        after: *mut u64,
+        after_len: usize,
+    ) -> u32;
+    fn kozempil_day_view(
+        delivered: *const u32,
+        delivered_len: usize,
+        received: *const u32,
+        received_len: usize,
+        month: u32,
+        day: u32,
+        number: u32,
+        part: *mut u64,
+        part_len: usize,
     );
 }
 
@@ -40,6 +65,59 @@ pub fn run(
             answers.len(),
             account.as_mut_ptr(),
             account.len(),
+        );
+    }
+}
+
+/// Answers one call on any account; 0 where the numbers are no account or no call.
+pub fn call(
+    account: &[u64],
+    call: &[u64],
+    delivered: &[u32],
+    received: &[u32],
+    answer: &mut [u64],
+    after: &mut [u64],
+) -> u32 {
+    // SAFETY: as in `run`.
+    unsafe {
+        kozempil_call(
+            account.as_ptr(),
+            account.len(),
+            call.as_ptr(),
+            call.len(),
+            delivered.as_ptr(),
+            delivered.len(),
+            received.as_ptr(),
+            received.len(),
+            answer.as_mut_ptr(),
+            answer.len(),
+            after.as_mut_ptr(),
+            after.len(),
+        )
+    }
+}
+
+/// Writes start and length of the day view.
+pub fn day_view(
+    delivered: &[u32],
+    received: &[u32],
+    month: u32,
+    day: u32,
+    number: u32,
+    part: &mut [u64],
+) {
+    // SAFETY: as in `run`.
+    unsafe {
+        kozempil_day_view(
+            delivered.as_ptr(),
+            delivered.len(),
+            received.as_ptr(),
+            received.len(),
+            month,
+            day,
+            number,
+            part.as_mut_ptr(),
+            part.len(),
         );
     }
 }

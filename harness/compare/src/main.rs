@@ -1,12 +1,13 @@
 //! Compares the proved library with the second implementation: every number of every
-//! answer and of the last account, over boundary lists, whole books, random lists and
-//! damaged buffers. Its last line is `compared N calls in M lists, 0 differences` and
+//! answer and of the last account, over boundary lists, whole books, random lists,
+//! damaged buffers and calls on accounts made by hand; and the place of day views. Its last line is `compared N calls in M lists, 0 differences` and
 //! its exit status is 0 only then.
 //!
 //! - [`interface`]: the library's function.
 //! - [`encode`], [`meaning`]: calls, answers and account in buffers, and back.
 //! - [`compare`]: one list both ways.
-//! - [`boundary`], [`lists`], [`damage`]: what is compared.
+//! - [`boundary`], [`lists`], [`damage`], [`given`], [`views`]: what is
+//!   compared.
 //! - [`rules`], [`wrong`]: variants with a mistake, each of which must be noticed.
 //! - [`met`]: what the lists must have met.
 //! - [`shrink`], [`show`]: the shortest list with a difference, in readable form.
@@ -18,6 +19,7 @@ mod boundary;
 mod compare;
 mod damage;
 mod encode;
+mod given;
 mod interface;
 mod lists;
 mod meaning;
@@ -26,6 +28,7 @@ mod rules;
 mod session;
 mod show;
 mod shrink;
+mod views;
 mod wrong;
 
 use session::{Options, Session};

@@ -1,14 +1,16 @@
 //! A whole run: what was asked, what was compared and what came out.
 
-use crate::compare::{compare, Difference};
+use crate::compare::{compare, Difference, Written};
 use crate::damage::{self, Damaged};
+use crate::given::{self, Given};
 use crate::lists::{self, List};
 use crate::met::Met;
 use crate::rules::Rules;
 use crate::show;
 use crate::shrink;
+use crate::views;
 use crate::wrong::{self, Wrong};
-use harness::reference::ledger::{run, Call};
+use harness::reference::ledger::{answer, run, Call};
 
 /// The command line.
 #[derive(Clone, Copy, Debug)]
@@ -59,6 +61,8 @@ impl Session {
         session.fixed_lists(options.show_wrong);
         session.random_lists(options.seed, options.lists);
         session.damaged_buffers();
+        session.given_accounts(options.seed, options.lists);
+        session.day_views();
         session
     }
 
@@ -181,6 +185,99 @@ impl Session {
                 damaged.name
             );
             print!("{}", show::buffers(&damaged.buffers, damaged.room));
+        }
+    }
+}
+
+/// Calls on given accounts that are always compared, whatever seed is given.
+const FIXED_GIVEN: u64 = 4_000;
+/// Of these, so many are tried with numbers that are no account or no call.
+const SPOILED: u64 = 200;
+
+impl Session {
+    /// Calls on accounts made by hand. The fixed ones must meet every case and show
+    /// every wrong variant.
+    fn given_accounts(&mut self, seed: u64, count: u64) {
+        let mut met = given::Met::default();
+        let mut watch = given::Watch::new();
+        for given in given::random(0, FIXED_GIVEN) {
+            if let Some(library) = self.given_account(&given) {
+                met.add(&given);
+                watch.look(&given, &library);
+            }
+        }
+        for given in given::random(seed, count) {
+            self.given_account(&given);
+        }
+        for given in given::random(0, SPOILED) {
+            for (name, account, call) in given.spoiled() {
+                self.lists += 1;
+                if !given.is_left_alone(&account, &call) {
+                    self.differences += 1;
+                    println!("difference in {}: {name} was taken", given.name);
+                }
+            }
+        }
+        self.report("given accounts");
+        if !met.is_complete() {
+            self.gap("some call was never accepted, or never refused by number 3");
+        }
+        let all = wrong::given().len();
+        println!(
+            "noticed {} of {all} wrong variants on given accounts",
+            all - watch.unnoticed.len()
+        );
+        for wrong in &watch.unnoticed {
+            self.gap(&format!("unnoticed: {}", wrong.name));
+        }
+    }
+
+    fn day_views(&mut self) {
+        let mut noticed = [false; views::WRONG.len()];
+        let mut count = 0;
+        for view in views::all() {
+            count += 1;
+            let library = view.by_library();
+            let expected = view.expected();
+            if library != expected {
+                self.differences += 1;
+                if self.differences <= MOST_SHOWN {
+                    println!("difference in {view:?}: library {library:?}, expected {expected:?}");
+                }
+            }
+            for (noticed, (_, wrong)) in noticed.iter_mut().zip(views::WRONG) {
+                *noticed |= wrong(&view) != library;
+            }
+        }
+        println!("day views: {count} compared");
+        for ((name, _), noticed) in views::WRONG.iter().zip(noticed) {
+            if !noticed {
+                self.gap(&format!("unnoticed: {name}"));
+            }
+        }
+    }
+
+    /// What the library writes, where it is what is expected.
+    fn given_account(&mut self, given: &Given) -> Option<Written> {
+        self.lists += 1;
+        self.calls += 1;
+        assert!(
+            Rules::RIGHT.answer(&given.account, &given.call) == answer(given.account, &given.call),
+            "the rules taken apart aren't those of the reference"
+        );
+        let expected = given.expected(&Rules::RIGHT);
+        let library = given.by_library().unwrap_or(Written::untouched(given.room));
+        match Difference::between(&library, &expected) {
+            None => Some(library),
+            Some(difference) => {
+                self.differences += 1;
+                if self.differences <= MOST_SHOWN {
+                    println!("difference in {}: {difference}", given.name);
+                    println!("{:?}", given.account);
+                    print!("{}", show::list(std::slice::from_ref(&given.call)));
+                }
+                None
+            }
         }
     }
 }

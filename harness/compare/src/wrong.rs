@@ -9,7 +9,9 @@ use harness::reference::account::{
 use harness::reference::calendar::{days_in_month, month_of_year, DayKind, Season, JUNE};
 use harness::reference::hours::{count_critical_days, Day, Period};
 use harness::reference::ledger::Call;
-use harness::reference::refusal::{self, Refusal, LARGEST_HOME, LARGEST_PRICE, LARGEST_READING};
+use harness::reference::refusal::{
+    self, Refusal, LARGEST_HOME, LARGEST_PRICE, LARGEST_READING, MOST_CARRIED, MOST_STANDING,
+};
 use harness::reference::steps::{self, cents, Netted, Shared, ASSISTED_FREE, STANDBY_FREE};
 
 #[derive(Clone, Copy)]
@@ -30,6 +32,201 @@ pub fn all() -> Vec<Wrong> {
 }
 
 type Named = (&'static str, Rules);
+
+/// Variants that no list from a fresh account shows: the account is read with one of
+/// its numbers changed, or a rule goes wrong only where no such list gets.
+pub fn given() -> Vec<Wrong> {
+    fn closing_of(changed: Account) -> Option<Refusal> {
+        refusal::of_closing(&changed)
+    }
+    fn exchanged(numbers: ByPeriod, from: u64, to: u64) -> ByPeriod {
+        numbers.map(|wh| if wh == from { to } else { wh })
+    }
+    let named: Vec<Named> = vec![
+        (
+            "refusal 3 allows a Wh too many",
+            Rules {
+                of_closing: |account| {
+                    closing_of(Account {
+                        carried: exchanged(account.carried, MOST_CARRIED + 1, MOST_CARRIED),
+                        ..*account
+                    })
+                },
+                ..RIGHT
+            },
+        ),
+        (
+            "refusal 3 allows a Wh too few",
+            Rules {
+                of_closing: |account| {
+                    closing_of(Account {
+                        carried: exchanged(account.carried, MOST_CARRIED, MOST_CARRIED + 1),
+                        ..*account
+                    })
+                },
+                ..RIGHT
+            },
+        ),
+        (
+            "refusal 3 allows a cent too many",
+            Rules {
+                of_closing: |account| {
+                    let standing = match account.standing == MOST_STANDING + 1 {
+                        true => MOST_STANDING,
+                        false => account.standing,
+                    };
+                    closing_of(Account {
+                        standing,
+                        ..*account
+                    })
+                },
+                ..RIGHT
+            },
+        ),
+        (
+            "refusal 3 allows a cent too few",
+            Rules {
+                of_closing: |account| {
+                    let standing = match account.standing == MOST_STANDING {
+                        true => MOST_STANDING + 1,
+                        false => account.standing,
+                    };
+                    closing_of(Account {
+                        standing,
+                        ..*account
+                    })
+                },
+                ..RIGHT
+            },
+        ),
+        (
+            "refusal 3 allows a month too many",
+            Rules {
+                of_closing: |account| {
+                    let next_month = match account.next_month {
+                        1_201 => 1_200,
+                        month => month,
+                    };
+                    closing_of(Account {
+                        next_month,
+                        ..*account
+                    })
+                },
+                ..RIGHT
+            },
+        ),
+        (
+            "refusal 3 allows a month too few",
+            Rules {
+                of_closing: |account| {
+                    let next_month = match account.next_month {
+                        1_200 => 1_201,
+                        month => month,
+                    };
+                    closing_of(Account {
+                        next_month,
+                        ..*account
+                    })
+                },
+                ..RIGHT
+            },
+        ),
+        (
+            "refusal 3 doesn't ask for the account's price list",
+            Rules {
+                of_repricing: |account, price_list| {
+                    let changed = Account {
+                        price_list: PriceList::default(),
+                        ..*account
+                    };
+                    refusal::of_repricing(&changed, price_list)
+                },
+                ..RIGHT
+            },
+        ),
+        (
+            "refusal 3 doesn't ask for the account's rider",
+            Rules {
+                of_repricing: |account, price_list| {
+                    let terms = Terms {
+                        rider: Rider::Banked,
+                        ..account.terms
+                    };
+                    refusal::of_repricing(&Account { terms, ..*account }, price_list)
+                },
+                ..RIGHT
+            },
+        ),
+        (
+            "refusal 3 doesn't ask for the account's nameplate",
+            Rules {
+                of_billing: |account, month, delivered, received, critical_days| {
+                    let terms = Terms {
+                        nameplate: 1,
+                        demand_limit: 1,
+                        ..account.terms
+                    };
+                    let changed = Account { terms, ..*account };
+                    refusal::of_billing(&changed, month, delivered, received, critical_days)
+                },
+                ..RIGHT
+            },
+        ),
+        (
+            "refusal 3 asks for what a fresh account holds",
+            Rules {
+                of_opening: |account, terms, price_list, first_month| {
+                    let opened = Account {
+                        state: State::Open,
+                        ..*account
+                    };
+                    match account.state == State::Fresh && refusal::is_impossible(&opened) {
+                        true => Some(Refusal::Closed),
+                        false => refusal::of_opening(account, terms, price_list, first_month),
+                    }
+                },
+                ..RIGHT
+            },
+        ),
+        (
+            "June resets the bridge rider",
+            Rules {
+                forfeited: |_, month, carried| steps::forfeited(Rider::Banked, month, carried),
+                ..RIGHT
+            },
+        ),
+        (
+            "opening keeps what the account carried",
+            Rules {
+                after: |before, call, after| match call {
+                    Call::Opening { .. } => Account {
+                        carried: before.carried,
+                        ..after
+                    },
+                    _ => after,
+                },
+                ..RIGHT
+            },
+        ),
+        (
+            "opening keeps the standing money",
+            Rules {
+                after: |before, call, after| match call {
+                    Call::Opening { .. } => Account {
+                        standing: before.standing,
+                        ..after
+                    },
+                    _ => after,
+                },
+                ..RIGHT
+            },
+        ),
+    ];
+    named
+        .into_iter()
+        .map(|(name, rules)| Wrong { name, rules })
+        .collect()
+}
 
 fn hours() -> Vec<Named> {
     vec![

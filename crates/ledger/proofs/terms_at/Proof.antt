@@ -3,39 +3,48 @@ use borrow.Author.Needs.{needs}
 use Rattle.ledger.proofs.terms_at.Statement.{statement}
 use Rattle.ledger.proofs.terms_at.Tie as tie
 
-shared-slice-read-rider-at : tie.Need-shared-slice-read-rider-at
-shared-slice-read-rider-at c = search needs
+number-at-requires : tie.Need-number-at-requires
+number-at-requires c κs = search needs
 
 rider-at-requires : tie.Need-rider-at-requires
 rider-at-requires c κs = search needs
 
-shared-slice-read-class-at : tie.Need-shared-slice-read-class-at
-shared-slice-read-class-at c = search needs
+number-at-requires-2 : tie.Need-number-at-requires-2
+number-at-requires-2 c κs = search needs
 
 class-at-requires : tie.Need-class-at-requires
 class-at-requires c κs = search needs
 
-shared-slice-read-t5 : tie.Need-shared-slice-read-t5
-shared-slice-read-t5 c = search needs
+number-at-requires-3 : tie.Need-number-at-requires-3
+number-at-requires-3 c κs = search needs
 
-shared-slice-read-t9 : tie.Need-shared-slice-read-t9
-shared-slice-read-t9 c = search needs
+number-at-requires-4 : tie.Need-number-at-requires-4
+number-at-requires-4 c κs = search needs
 
-shared-slice-read-t11 : tie.Need-shared-slice-read-t11
-shared-slice-read-t11 c = search needs
+number-at-requires-5 : tie.Need-number-at-requires-5
+number-at-requires-5 c κs = search needs
 
 returns : tie.Need-returns
-returns c = rw (c .before .before .before .before .before .rider-at .ensures, c .before .before .before .class-at .ensures)
+returns c =
+    rw (
+      c .number-at5 .ensures,
+      c .before .number-at4 .ensures,
+      c .before .before .number-at3 .ensures,
+      c .before .before .before .class-at .ensures,
+      c .before .before .before .before .number-at2 .ensures,
+      c .before .before .before .before .before .rider-at .ensures,
+      c .before .before .before .before .before .before .number-at .ensures,
+    )
 
 pub terms-at-spec : {M : Type 1} → statement M
 terms-at-spec =
     tie.close
     (tie.spec
-    shared-slice-read-rider-at
+    number-at-requires
     rider-at-requires
-    shared-slice-read-class-at
+    number-at-requires-2
     class-at-requires
-    shared-slice-read-t5
-    shared-slice-read-t9
-    shared-slice-read-t11
+    number-at-requires-3
+    number-at-requires-4
+    number-at-requires-5
     returns)

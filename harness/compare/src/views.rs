@@ -1,0 +1,96 @@
+//! The day view as start and length: every month with its first and last days, days and
+//! registers that aren't there, and registers of another length.
+
+use crate::interface;
+use harness::reference::calendar::{days_in_month, LAST_MONTH};
+use harness::reference::day_view::day_view;
+use harness::reference::hours::register_length;
+
+/// What is asked: lengths of the two registers, month, day and register number.
+#[derive(Clone, Copy, Debug)]
+pub struct View {
+    delivered: usize,
+    received: usize,
+    month: u32,
+    day: u32,
+    number: u32,
+}
+
+/// Start and length of the part.
+type Place = [u64; 2];
+
+pub fn all() -> impl Iterator<Item = View> {
+    (0..=LAST_MONTH + 2).chain([u32::MAX]).flat_map(views)
+}
+
+fn views(month: u32) -> Vec<View> {
+    let right = register_length(month);
+    let last = days_in_month(month);
+    let mut views = Vec::new();
+    for (delivered, received) in [(0, 0), (1, 0), (0, 1), (96, 96)] {
+        for day in [0, 1, 2, 28, last - 1, last, last + 1, 32, u32::MAX] {
+            for number in [0, 1, 2, u32::MAX] {
+                views.push(View {
+                    delivered: right - delivered,
+                    received: right - received,
+                    month,
+                    day,
+                    number,
+                });
+            }
+        }
+    }
+    views
+}
+
+impl View {
+    pub fn by_library(&self) -> Place {
+        let mut place = [u64::MAX; 2];
+        interface::day_view(
+            &vec![0; self.delivered],
+            &vec![0; self.received],
+            self.month,
+            self.day,
+            self.number,
+            &mut place,
+        );
+        place
+    }
+
+    /// Where the reference's part lies in its register.
+    pub fn expected(&self) -> Place {
+        let delivered = vec![0; self.delivered];
+        let received = vec![0; self.received];
+        let part = day_view(&delivered, &received, self.month, self.day, self.number);
+        let register: &[u32] = match (part.is_empty(), self.number) {
+            (false, 1) => &received,
+            _ => &delivered,
+        };
+        let bytes = part.as_ptr() as usize - register.as_ptr() as usize;
+        [(bytes / size_of::<u32>()) as u64, part.len() as u64]
+    }
+}
+
+/// Wrong views, each with its name.
+pub const WRONG: [(&str, fn(&View) -> Place); 5] = [
+    ("days are counted from 0", |view| {
+        let [start, length] = view.expected();
+        [start + length, length]
+    }),
+    ("a day has 95 readings", |view| {
+        let [start, length] = view.expected();
+        [start, length.min(95)]
+    }),
+    ("the received register may have any length", |view| {
+        let received = view.delivered;
+        View { received, ..*view }.expected()
+    }),
+    ("register 2 is the received one", |view| {
+        let number = match view.number {
+            2 => 1,
+            number => number,
+        };
+        View { number, ..*view }.expected()
+    }),
+    ("no month is shown", |_| [0, 0]),
+];
