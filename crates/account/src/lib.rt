@@ -18,7 +18,7 @@ use tariff::Rider;
 use tariff::Terms;
 
 // The month after December 2099, which is next once that has been billed.
-const PAST_LAST_MONTH: u32 = 1200;
+const HIGHEST_NEXT: u32 = 1200;
 
 pub enum Stage {
     Fresh,
@@ -116,7 +116,7 @@ fn cant_arise(account: Account) -> bool
     if billing::STANDING_LIMIT < account.standing {
         return true;
     }
-    if PAST_LAST_MONTH < account.next {
+    if HIGHEST_NEXT < account.next {
         return true;
     }
     if is_open(stage) {
