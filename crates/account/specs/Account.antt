@@ -81,6 +81,10 @@ afterBill a b =
 abbrev pub closingAmounts : Account → ClosingAmounts
 closingAmounts a = record { forfeited = a .carried; refunded = a .standing }
 
+-- "A refusal returns zeros in every amount": those of a refused closing.
+abbrev pub noAmounts : ClosingAmounts
+noAmounts = record { forfeited = none; refunded = 0 }
+
 -- "the account is then closed, with both at 0"
 abbrev pub closed : Account → Account
 closed a =
@@ -116,6 +120,6 @@ closingReply a =
     let n : ℕ = closingNumber a in
     record {
       number = n;
-      amounts = cond (eqb n 0) (closingAmounts a) (record { forfeited = none; refunded = 0 });
+      amounts = cond (eqb n 0) (closingAmounts a) noAmounts;
       account = cond (eqb n 0) (closed a) a;
     }
