@@ -44,6 +44,7 @@ bridgeHome assisted w = record { rider = Bridge; class = Home; nameplate = w; li
 abbrev pub bankedBusiness : ℕ → Terms
 bankedBusiness w = record { rider = Banked; class = Business; nameplate = w; limit = w; assisted = false }
 
+-- Figure k: July 2001.
 abbrev pub july2001 : ℕ
 july2001 = monthNumber 2001 7
 
@@ -52,6 +53,7 @@ abbrev pub juneBill : PriceList → ℕ → ℕ → Bill
 juneBill l standing power =
     billFrom (bankedBusiness 1) l (offPeakOnly 5000) standing (monthNumber 2001 6) (offPeakOnly 3000) none power
 
+-- "Proved against the definitions as one chart, by one theorem".
 pub record WallChart : Type 0 where
   pub a-out : sharedOf (four 10 0 5 0) (four 0 4 0 9) .out ≡ four 10 0 3 0
   pub a-in : sharedOf (four 10 0 5 0) (four 0 4 0 9) .into ≡ four 0 4 0 9

@@ -52,6 +52,7 @@ classLimit Business = 1000000
 unfoldable pub capacityRefused : Terms → Bool
 capacityRefused t = ltb (nameplateOf t) 1 || ltb (t .limit) (nameplateOf t) || ltb (classLimit (t .class)) (nameplateOf t)
 
+-- "Terms: rider (banked or bridge), class (home or business)": each as a test.
 abbrev pub isBanked : Rider → Bool
 isBanked Banked = true
 isBanked Bridge = false
