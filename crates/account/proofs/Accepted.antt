@@ -14,6 +14,7 @@ use Rattle.tariff.specs.declared.Terms.{Terms}
 use Rattle.tariff.specs.declared.PriceList.{PriceList}
 use Rattle.tariff.specs.Tariff.{someOver, pricesRefused, capacityRefused, bridgeRefused}
 use Rattle.billing.specs.Billing.{carriedLimit, standingLimit, amountsOf}
+use Rattle.refusals.specs.Table.{openingRow, repricingRow, billingRow, closingRow}
 use Rattle.account.specs.declared.Stage.{Stage}
 use Rattle.account.specs.declared.Stage.the-variants.{Fresh, Open, Closed}
 use Rattle.account.specs.declared.Account.{Account}
@@ -87,7 +88,7 @@ fresh-stage Open e f = cc
 fresh-stage Closed e f = cc
 
 pub opening-accepted : (a : Account) (t : Terms) (l : PriceList) (m : ℕ) → openingNumber a t l m ≡ 0 → OpeningAccepted a t l m
-unfolding openingNumber unusable
+unfolding openingNumber openingRow unusable
 opening-accepted a t l m e =
     let (notOpen, e3) = pass (isOpen (a .stage)) 1 _ e in
     let (able, e4) = pass (isClosed (a .stage) || cantArise a) 2 _ e3 in
@@ -103,14 +104,14 @@ opening-accepted a t l m e =
 
 -- An accepted repricing, and an accepted closing.
 pub repricing-accepted : (a : Account) (l : PriceList) → repricingNumber a l ≡ 0 → Usable a × (pricesRefused l ≡ false)
-unfolding repricingNumber
+unfolding repricingNumber repricingRow
 repricing-accepted a l e =
     let (f, e3) = pass (isFresh (a .stage)) 0 _ e in
     let (u, e4) = pass (unusable a) 2 _ e3 in
     (usable a f u, pass (pricesRefused l) 3 0 e4 .0)
 
 pub closing-accepted : (a : Account) → closingNumber a ≡ 0 → Usable a
-unfolding closingNumber
+unfolding closingNumber closingRow
 closing-accepted a e =
     let (f, e3) = pass (isFresh (a .stage)) 0 _ e in
     usable a f (pass (unusable a) 2 0 e3 .0)
@@ -127,7 +128,7 @@ pub record BillingAccepted (a : Account) (m : ℕ) (delivered received : List �
 
 pub billing-accepted : (a : Account) (m : ℕ) (delivered received : List ℕ) (x : ℕ) → billingNumber a m delivered received x ≡ 0
     → BillingAccepted a m delivered received x
-unfolding billingNumber
+unfolding billingNumber billingRow
 billing-accepted a m delivered received x e =
     let (f, e3) = pass (isFresh (a .stage)) 0 _ e in
     let (u, e11) = pass (unusable a) 2 _ e3 in

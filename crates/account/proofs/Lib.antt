@@ -1,4 +1,2 @@
 pub mod Accepted
-pub mod Chart
-mod Rows
 mod Tallied

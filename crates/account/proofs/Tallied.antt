@@ -13,26 +13,27 @@ use Rattle.tariff.proofs.Laws.{nameplate-within}
 use Rattle.billing.specs.Billing.{billOrNone, noBill}
 use Rattle.billing.specs.declared.Bill.{Bill}
 use Rattle.registers.specs.declared.Tally.{Tally}
+use Rattle.refusals.specs.Table.{billingRow}
 use Rattle.account.specs.declared.BillingReply.{BillingReply}
 use Rattle.billing.proofs.Limits.{billable-true, at-most}
 use Rattle.account.specs.declared.Account.{Account}
-use Rattle.account.specs.Refusals.{billingNumber}
+use Rattle.account.specs.Refusals.{isFresh, unusable, billingNumber}
 use Rattle.account.specs.Account.{billOf, billingReply}
-use Rattle.account.specs.Tallies.{numberFrom, replyFrom}
+use Rattle.account.specs.Tallies.{replyFrom}
 use Rattle.account.proofs.Accepted.{BillingAccepted, billing-accepted}
 
 module _ (a : Account) (m : ℕ) (delivered received : List ℕ) (x : ℕ) where
   pub number-is :
-      numberFrom a m
+      billingRow (isFresh (a .stage)) (unusable a) (a .next) m
       (tallyOf fixedSchedule m x delivered .wronglength || tallyOf fixedSchedule m x received .wronglength)
       (criticalRefused m x)
       (tallyOf fixedSchedule m x delivered .abovelimit || tallyOf fixedSchedule m x received .abovelimit)
       ≡ billingNumber a m delivered received x
-  unfolding numberFrom billingNumber
+  unfolding billingRow billingNumber
   number-is = by (lengthRefused m delivered) (lengthRefused m received) refl refl
     where
       by : (b c : Bool) → lengthRefused m delivered ≡ b → lengthRefused m received ≡ c
-          → numberFrom a m
+          → billingRow (isFresh (a .stage)) (unusable a) (a .next) m
           (tallyOf fixedSchedule m x delivered .wronglength || tallyOf fixedSchedule m x received .wronglength)
           (criticalRefused m x)
           (tallyOf fixedSchedule m x delivered .abovelimit || tallyOf fixedSchedule m x received .abovelimit)
@@ -72,11 +73,12 @@ module _ (a : Account) (m : ℕ) (delivered received : List ℕ) (x : ℕ) where
       )
 
   -- The number and the answer, from the values that the calls before them gave.
-  pub number-found : (s : List ℕ) (t g : Tally) (short days above : Bool) (n : ℕ)
+  pub number-found : (s : List ℕ) (t g : Tally) (fresh bad short days above : Bool) (n : ℕ)
+      → fresh ≡ isFresh (a .stage) → bad ≡ unusable a
       → s ≡ fixedSchedule → t ≡ tallyOf s m x delivered → g ≡ tallyOf s m x received
       → short ≡ (t .wronglength || g .wronglength) → days ≡ criticalRefused m x → above ≡ (t .abovelimit || g .abovelimit)
-      → n ≡ numberFrom a m short days above → n ≡ billingNumber a m delivered received x
-  number-found s t g short days above n i j k o p q e = rw (e, o, p, q, j, k, i) number-is
+      → n ≡ billingRow fresh bad (a .next) m short days above → n ≡ billingNumber a m delivered received x
+  number-found s t g fresh bad short days above n f u i j k o p q e = rw (e, f, u, o, p, q, j, k, i) number-is
 
   pub refused-reply : (n : ℕ) (b : Bill) → n ≡ billingNumber a m delivered received x → (n ≡ 0 → ⊥) → b ≡ noBill
       → _≡_ {A = BillingReply} (record { number = n; bill = b; account = a }) (billingReply a m delivered received x)

@@ -1,4 +1,3 @@
 pub mod Account
-pub mod Chart
 pub mod Refusals
 pub mod Tallies

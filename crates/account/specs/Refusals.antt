@@ -1,9 +1,9 @@
--- Document 01, "When the office declines": the table, and the order of its rows for each call.
+-- Document 01, "When the office declines": which accounts rows 1 to 3 refuse, and the number of each call.
 -- a is the account, t terms, l a price list, m a month, x the number that names the critical days.
-use mathlib.Core.Bool.{Bool, true, false, cond, not, _&&_, _||_}
-use mathlib.Core.List.{List, [], _∷_}
+use mathlib.Core.Bool.{Bool, true, false, _&&_, _||_}
+use mathlib.Core.List.{List}
 use Prim.Native.Nat.{ℕ, _+_}
-use lib.Dec.{eqb, ltb}
+use lib.Dec.{ltb}
 use Rattle.calendar.specs.Calendar.{lastMonth}
 use Rattle.hours.specs.CriticalDays.{criticalRefused}
 use Rattle.registers.specs.Registers.{lengthRefused, readingRefused}
@@ -11,6 +11,7 @@ use Rattle.billing.specs.Billing.{carriedLimit, standingLimit, amountsOf}
 use Rattle.tariff.specs.declared.Terms.{Terms}
 use Rattle.tariff.specs.declared.PriceList.{PriceList}
 use Rattle.tariff.specs.Tariff.{someOver, pricesRefused, capacityRefused, bridgeRefused}
+use Rattle.refusals.specs.Table.{openingRow, repricingRow, billingRow, closingRow}
 use Rattle.account.specs.declared.Stage.{Stage}
 use Rattle.account.specs.declared.Stage.the-variants.{Fresh, Open, Closed}
 use Rattle.account.specs.declared.Account.{Account}
@@ -49,50 +50,20 @@ cantArise a =
 unfoldable pub unusable : Account → Bool
 unusable a = isClosed (a .stage) || cantArise a
 
--- A row of the table: whether it applies, and its number.
-pub record Row : Type 0 where
-  pub applies : Bool
-  pub number : ℕ
-
-abbrev pub row : ℕ → Bool → Row
-row n b = record { applies = b; number = n }
-
--- "The lowest number that applies is given, except that 11 comes before 7. Accepted calls answer 0": the first of the rows, which stand
--- in that order.
-abbrev pub firstOf : List Row → ℕ
-firstOf [] = 0
-firstOf (r ∷ rs) = cond (r .applies) (r .number) (firstOf rs)
-
--- Opening: rows 2 ("opening an open account"), 3, 4, 5, 6, 7 ("first month above 1199").
+-- The number that each call is given: the table's first row that applies. Rows 8 to 10 of a billing: "either register of the wrong
+-- length", refused critical days, a reading above its limit in either.
 unfoldable pub openingNumber : Account → Terms → PriceList → ℕ → ℕ
-openingNumber a t l m =
-    firstOf
-    (row 2 (isOpen (a .stage))
-    ∷ row 3 (unusable a)
-    ∷ row 4 (pricesRefused l)
-    ∷ row 5 (capacityRefused t)
-    ∷ row 6 (bridgeRefused t)
-    ∷ row 7 (ltb lastMonth m)
-    ∷ [])
+openingNumber a t l m = openingRow (isOpen (a .stage)) (unusable a) t l m
 
--- Repricing: rows 1 ("account fresh"), 3, 4.
 unfoldable pub repricingNumber : Account → PriceList → ℕ
-repricingNumber a l = firstOf (row 1 (isFresh (a .stage)) ∷ row 3 (unusable a) ∷ row 4 (pricesRefused l) ∷ [])
+repricingNumber a l = repricingRow (isFresh (a .stage)) (unusable a) l
 
--- Billing: rows 1, 3, 11, 7, 8, 9, 10. "billing when December 2099 has been billed"; "billing a month other than the next"; "either
--- register of the wrong length".
 unfoldable pub billingNumber : Account → ℕ → List ℕ → List ℕ → ℕ → ℕ
 billingNumber a m delivered received x =
-    firstOf
-    (row 1 (isFresh (a .stage))
-    ∷ row 3 (unusable a)
-    ∷ row 11 (ltb lastMonth (a .next))
-    ∷ row 7 (not (eqb m (a .next)))
-    ∷ row 8 (lengthRefused m delivered || lengthRefused m received)
-    ∷ row 9 (criticalRefused m x)
-    ∷ row 10 (readingRefused delivered || readingRefused received)
-    ∷ [])
+    billingRow (isFresh (a .stage)) (unusable a) (a .next) m
+    (lengthRefused m delivered || lengthRefused m received)
+    (criticalRefused m x)
+    (readingRefused delivered || readingRefused received)
 
--- Closing: rows 1, 3.
 unfoldable pub closingNumber : Account → ℕ
-closingNumber a = firstOf (row 1 (isFresh (a .stage)) ∷ row 3 (unusable a) ∷ [])
+closingNumber a = closingRow (isFresh (a .stage)) (unusable a)

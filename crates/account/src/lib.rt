@@ -6,9 +6,9 @@ ghost use Prim.Native.Nat.{_≤_};
 ghost use Rattle.calendar.specs.Calendar.{lastMonth};
 ghost use Rattle.hours.specs.CriticalDays.{criticalRefused};
 ghost use Rattle.account.specs.Refusals.{isFresh, isOpen, isClosed};
-ghost use Rattle.account.specs.Refusals.{contentsRefused, cantArise, unusable, openingNumber, repricingNumber, closingNumber};
+ghost use Rattle.account.specs.Refusals.{contentsRefused, cantArise, unusable};
 ghost use Rattle.account.specs.Account.{freshAccount, afterBill, openingReply, repricingReply, billingReply, closingReply};
-ghost use Rattle.account.specs.Tallies.{numberFrom, replyFrom};
+ghost use Rattle.account.specs.Tallies.{replyFrom};
 use billing::Bill;
 use hours::ByPeriod;
 use registers::Tally;
@@ -136,74 +136,6 @@ fn is_unusable(account: Account) -> bool
     cant_arise(account)
 }
 
-// The number of an opening.
-fn opening_number(account: Account, terms: Terms, prices: PriceList, month: u32) -> u32
-    ensures { λ r. ⌜ r ≡ openingNumber account terms prices month ⌝ }
-{
-    let stage = account.stage;
-    if is_open(stage) {
-        return 2;
-    }
-    if is_unusable(account) {
-        return 3;
-    }
-    if tariff::prices_refused(prices) {
-        return 4;
-    }
-    if tariff::capacity_refused(terms) {
-        return 5;
-    }
-    if tariff::bridge_refused(terms) {
-        return 6;
-    }
-    if calendar::LAST_MONTH < month { 7 } else { 0 }
-}
-
-// The number of a closing: rows 1 and 3, which are also the first rows of a repricing and a billing.
-fn closing_number(account: Account) -> u32
-    ensures { λ r. ⌜ r ≡ closingNumber account ⌝ }
-{
-    let stage = account.stage;
-    if is_fresh(stage) {
-        return 1;
-    }
-    if is_unusable(account) { 3 } else { 0 }
-}
-
-// The number of a repricing.
-fn repricing_number(account: Account, prices: PriceList) -> u32
-    ensures { λ r. ⌜ r ≡ repricingNumber account prices ⌝ }
-{
-    let number = closing_number(account);
-    if number != 0 {
-        return number;
-    }
-    if tariff::prices_refused(prices) { 4 } else { 0 }
-}
-
-// The number of a billing, from what its registers and critical days were found to be.
-fn billing_number(account: Account, month: u32, short: bool, days: bool, above: bool) -> u32
-    ensures { λ r. ⌜ r ≡ numberFrom account month short days above ⌝ }
-{
-    let number = closing_number(account);
-    if number != 0 {
-        return number;
-    }
-    if calendar::LAST_MONTH < account.next {
-        return 11;
-    }
-    if month != account.next {
-        return 7;
-    }
-    if short {
-        return 8;
-    }
-    if days {
-        return 9;
-    }
-    if above { 10 } else { 0 }
-}
-
 // Either of two.
 fn either(a: bool, b: bool) -> bool
     ensures { λ r. ⌜ r ≡ (a || b) ⌝ }
@@ -306,7 +238,10 @@ impl Account {
     pub fn opening(self, terms: Terms, prices: PriceList, month: u32) -> Reply
         ensures { λ r. ⌜ r ≡ openingReply self terms prices month ⌝ }
     {
-        let number = opening_number(self, terms, prices, month);
+        let stage = self.stage;
+        let opened = is_open(stage);
+        let unusable = is_unusable(self);
+        let number = refusals::opening_row(opened, unusable, terms, prices, month);
         if number != 0 {
             return Reply {
                 number,
@@ -331,14 +266,16 @@ impl Account {
     pub fn repricing(self, prices: PriceList) -> Reply
         ensures { λ r. ⌜ r ≡ repricingReply self prices ⌝ }
     {
-        let number = repricing_number(self, prices);
+        let stage = self.stage;
+        let fresh = is_fresh(stage);
+        let unusable = is_unusable(self);
+        let number = refusals::repricing_row(fresh, unusable, prices);
         if number != 0 {
             return Reply {
                 number,
                 account: self,
             };
         }
-        let stage = self.stage;
         let terms = self.terms;
         let carried = self.carried;
         Reply {
@@ -364,13 +301,17 @@ impl Account {
     ) -> BillingReply
         ensures { λ r. ⌜ r ≡ billingReply self month (now (delivered .entry)) (now (received .entry)) «critical_days» ⌝ }
     {
+        let stage = self.stage;
+        let fresh = is_fresh(stage);
+        let unusable = is_unusable(self);
         let schedule = hours::fixed_schedule();
         let taken = registers::tally_of(&schedule, delivered, month, critical_days);
         let given = registers::tally_of(&schedule, received, month, critical_days);
         let short = either(taken.wronglength, given.wronglength);
         let days = hours::critical_refused(month, critical_days);
         let above = either(taken.abovelimit, given.abovelimit);
-        let number = billing_number(self, month, short, days, above);
+        let next = self.next;
+        let number = refusals::billing_row(fresh, unusable, next, month, short, days, above);
         if number != 0 {
             return BillingReply {
                 number,
@@ -385,7 +326,10 @@ impl Account {
     pub fn closing(self) -> ClosingReply
         ensures { λ r. ⌜ r ≡ closingReply self ⌝ }
     {
-        let number = closing_number(self);
+        let stage = self.stage;
+        let fresh = is_fresh(stage);
+        let unusable = is_unusable(self);
+        let number = refusals::closing_row(fresh, unusable);
         if number != 0 {
             return ClosingReply {
                 number,

@@ -8,24 +8,32 @@ use Rattle.account.proofs.Account.billing.Statement.{statement}
 use Rattle.account.proofs.Account.billing.Tie as tie
 
 -- The number found is the table's.
-found : (c : tie.After-billing-number) →
-    c .billing-number .result
+found : (c : tie.After-billing-row) →
+    c .billing-row .result
     ≡ billingNumber
-    (c .before .before .before .before .before .before .before .before .before .before .before .args .self)
-    (c .before .before .before .before .before .before .before .before .before .before .before .args .month)
-    (c .before .before .before .before .before .before .before .before .before .before .before .args .delivered .now)
-    (c .before .before .before .before .before .before .before .before .before .before .before .args .received .now)
-    (c .before .before .before .before .before .before .before .before .before .before .before .args .critical-days)
+    (c .before .before .before .before .before .before .before .before .before .before .before .before .before .args .self)
+    (c .before .before .before .before .before .before .before .before .before .before .before .before .before .args .month)
+    (c .before .before .before .before .before .before .before .before .before .before .before .before .before .args .delivered .now)
+    (c .before .before .before .before .before .before .before .before .before .before .before .before .before .args .received .now)
+    (c .before .before .before .before .before .before .before .before .before .before .before .before .before .args .critical-days)
 found c =
     number-found
-    _ _ _ _ _ _ _ _ _ _ _ _
+    _ _ _ _ _ _ _ _ _ _ _ _ _ _
+    (c .before .before .before .before .before .before .before .before .before .before .is-fresh .ensures)
+    (c .before .before .before .before .before .before .before .before .before .is-unusable .ensures)
     (c .before .before .before .before .before .before .before .before .fixed-schedule .ensures)
     (c .before .before .before .before .before .before .tally-of .ensures)
     (c .before .before .before .before .tally-of2 .ensures)
     (c .before .before .before .either .ensures)
     (c .before .before .critical-refused .ensures)
     (c .before .either2 .ensures)
-    (c .billing-number .ensures)
+    (c .billing-row .ensures)
+
+is-fresh-requires : tie.Need-is-fresh-requires
+is-fresh-requires c κs = search needs
+
+is-unusable-requires : tie.Need-is-unusable-requires
+is-unusable-requires c κs = search needs
 
 fixed-schedule-requires : tie.Need-fixed-schedule-requires
 fixed-schedule-requires c κs = search needs
@@ -45,8 +53,8 @@ critical-refused-requires c κs = search needs
 either-requires-2 : tie.Need-either-requires-2
 either-requires-2 c κs = search needs
 
-billing-number-requires : tie.Need-billing-number-requires
-billing-number-requires c κs = search needs
+billing-row-requires : tie.Need-billing-row-requires
+billing-row-requires c κs = search needs
 
 no-bill-requires : tie.Need-no-bill-requires
 no-bill-requires c κs = search needs
@@ -72,13 +80,15 @@ pub billing-spec : {M : Type 1} → statement M
 billing-spec =
     tie.close
     (tie.spec
+    is-fresh-requires
+    is-unusable-requires
     fixed-schedule-requires
     tally-of-requires
     tally-of-requires-2
     either-requires
     critical-refused-requires
     either-requires-2
-    billing-number-requires
+    billing-row-requires
     no-bill-requires
     returns
     billed-requires

@@ -9,7 +9,7 @@ use Rattle.sharing.specs.Sharing.{movesOf, sharedOf}
 use Rattle.tariff.specs.Tariff.{nameplateOf}
 use Rattle.charges.specs.Charges.{cents, standbyLine, isExempt, shortfallLine, grantedOf}
 use Rattle.billing.specs.Billing.{resets, forfeitedBy, keptBy, nettedOf, leftOf, paidOf, billFrom}
-use Rattle.account.specs.Chart.{WallChart}
+use Rattle.chart.specs.Chart.{WallChart}
 
 pub wall-chart : WallChart
 unfolding

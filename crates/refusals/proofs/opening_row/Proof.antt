@@ -1,34 +1,26 @@
--- `account::opening_number` asks rows 2 to 7 in turn.
+-- `refusals::opening_row` asks rows 2 to 7 in turn.
 use borrow.Author.Needs.{needs}
 use borrow.Author.Tests.{lt-ltb, le-ltb}
-use Rattle.account.specs.Refusals.{openingNumber}
-use Rattle.account.proofs.opening_number.Statement.{statement}
-use Rattle.account.proofs.opening_number.Tie as tie
-
-is-open-requires : tie.Need-is-open-requires
-is-open-requires c κs = search needs
+use Rattle.refusals.specs.Table.{openingRow}
+use Rattle.refusals.proofs.opening_row.Statement.{statement}
+use Rattle.refusals.proofs.opening_row.Tie as tie
 
 returns : tie.Need-returns
-unfolding openingNumber
-returns c = simp (← (c .before .is-open .ensures), c .if1 .taken)
-
-is-unusable-requires : tie.Need-is-unusable-requires
-is-unusable-requires c κs = search needs
+unfolding openingRow
+returns c = simp (c .if1 .taken)
 
 returns-2 : tie.Need-returns-2
-unfolding openingNumber
-returns-2 c = simp (← (c .before .before .before .is-open .ensures), c .before .before .if1 .left, ← (c .before .is-unusable .ensures), c .if2 .taken)
+unfolding openingRow
+returns-2 c = simp (c .before .if1 .left, c .if2 .taken)
 
 prices-refused-requires : tie.Need-prices-refused-requires
 prices-refused-requires c κs = search needs
 
 returns-3 : tie.Need-returns-3
-unfolding openingNumber
+unfolding openingRow
 returns-3 c =
     simp (
-      ← (c .before .before .before .before .before .is-open .ensures),
-      c .before .before .before .before .if1 .left,
-      ← (c .before .before .before .is-unusable .ensures),
+      c .before .before .before .if1 .left,
       c .before .before .if2 .left,
       ← (c .before .prices-refused .ensures),
       c .if3 .taken,
@@ -38,12 +30,10 @@ capacity-refused-requires : tie.Need-capacity-refused-requires
 capacity-refused-requires c κs = search needs
 
 returns-4 : tie.Need-returns-4
-unfolding openingNumber
+unfolding openingRow
 returns-4 c =
     simp (
-      ← (c .before .before .before .before .before .before .before .is-open .ensures),
-      c .before .before .before .before .before .before .if1 .left,
-      ← (c .before .before .before .before .before .is-unusable .ensures),
+      c .before .before .before .before .before .if1 .left,
       c .before .before .before .before .if2 .left,
       ← (c .before .before .before .prices-refused .ensures),
       c .before .before .if3 .left,
@@ -55,12 +45,10 @@ bridge-refused-requires : tie.Need-bridge-refused-requires
 bridge-refused-requires c κs = search needs
 
 returns-5 : tie.Need-returns-5
-unfolding openingNumber
+unfolding openingRow
 returns-5 c =
     simp (
-      ← (c .before .before .before .before .before .before .before .before .before .is-open .ensures),
-      c .before .before .before .before .before .before .before .before .if1 .left,
-      ← (c .before .before .before .before .before .before .before .is-unusable .ensures),
+      c .before .before .before .before .before .before .before .if1 .left,
       c .before .before .before .before .before .before .if2 .left,
       ← (c .before .before .before .before .before .prices-refused .ensures),
       c .before .before .before .before .if3 .left,
@@ -71,12 +59,10 @@ returns-5 c =
     )
 
 returns-6 : tie.Need-returns-6
-unfolding openingNumber
+unfolding openingRow
 returns-6 c =
     simp (
-      ← (c .before .before .before .before .before .before .before .before .before .before .is-open .ensures),
-      c .before .before .before .before .before .before .before .before .before .if1 .left,
-      ← (c .before .before .before .before .before .before .before .before .is-unusable .ensures),
+      c .before .before .before .before .before .before .before .before .if1 .left,
       c .before .before .before .before .before .before .before .if2 .left,
       ← (c .before .before .before .before .before .before .prices-refused .ensures),
       c .before .before .before .before .before .if3 .left,
@@ -88,12 +74,10 @@ returns-6 c =
     )
 
 returns-7 : tie.Need-returns-7
-unfolding openingNumber
+unfolding openingRow
 returns-7 c =
     simp (
-      ← (c .before .before .before .before .before .before .before .before .before .before .is-open .ensures),
-      c .before .before .before .before .before .before .before .before .before .if1 .left,
-      ← (c .before .before .before .before .before .before .before .before .is-unusable .ensures),
+      c .before .before .before .before .before .before .before .before .if1 .left,
       c .before .before .before .before .before .before .before .if2 .left,
       ← (c .before .before .before .before .before .before .prices-refused .ensures),
       c .before .before .before .before .before .if3 .left,
@@ -104,13 +88,11 @@ returns-7 c =
       le-ltb _ _ (c .if6 .left),
     )
 
-pub opening-number-spec : {M : Type 1} → statement M
-opening-number-spec =
+pub opening-row-spec : {M : Type 1} → statement M
+opening-row-spec =
     tie.close
     (tie.spec
-    is-open-requires
     returns
-    is-unusable-requires
     returns-2
     prices-refused-requires
     returns-3

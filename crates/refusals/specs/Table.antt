@@ -1,0 +1,58 @@
+-- Document 01, "When the office declines": the rows of each call, in the order in which they are asked. fresh, opened and unusable say
+-- what the account is, and next is its next month; t are terms, l is a price list, m a month; short, days and above say whether rows 8, 9
+-- and 10 apply.
+use mathlib.Core.Bool.{Bool, cond, not}
+use mathlib.Core.List.{List, [], _∷_}
+use Prim.Native.Nat.{ℕ}
+use lib.Dec.{eqb, ltb}
+use Rattle.calendar.specs.Calendar.{lastMonth}
+use Rattle.tariff.specs.declared.Terms.{Terms}
+use Rattle.tariff.specs.declared.PriceList.{PriceList}
+use Rattle.tariff.specs.Tariff.{pricesRefused, capacityRefused, bridgeRefused}
+
+-- A row of the table: whether it applies, and its number.
+pub record Row : Type 0 where
+  pub applies : Bool
+  pub number : ℕ
+
+abbrev pub row : ℕ → Bool → Row
+row n b = record { applies = b; number = n }
+
+-- "The lowest number that applies is given, except that 11 comes before 7. Accepted calls answer 0": the first of the rows, which stand
+-- in that order.
+abbrev pub firstOf : List Row → ℕ
+firstOf [] = 0
+firstOf (r ∷ rs) = cond (r .applies) (r .number) (firstOf rs)
+
+-- Opening: rows 2 ("opening an open account"), 3, 4, 5, 6, 7 ("first month above 1199").
+unfoldable pub openingRow : Bool → Bool → Terms → PriceList → ℕ → ℕ
+openingRow opened unusable t l m =
+    firstOf
+    (row 2 opened
+    ∷ row 3 unusable
+    ∷ row 4 (pricesRefused l)
+    ∷ row 5 (capacityRefused t)
+    ∷ row 6 (bridgeRefused t)
+    ∷ row 7 (ltb lastMonth m)
+    ∷ [])
+
+-- Repricing: rows 1 ("account fresh"), 3, 4.
+unfoldable pub repricingRow : Bool → Bool → PriceList → ℕ
+repricingRow fresh unusable l = firstOf (row 1 fresh ∷ row 3 unusable ∷ row 4 (pricesRefused l) ∷ [])
+
+-- Billing: rows 1, 3, 11 ("billing when December 2099 has been billed"), 7 ("billing a month other than the next"), 8, 9, 10.
+unfoldable pub billingRow : Bool → Bool → ℕ → ℕ → Bool → Bool → Bool → ℕ
+billingRow fresh unusable next m short days above =
+    firstOf
+    (row 1 fresh
+    ∷ row 3 unusable
+    ∷ row 11 (ltb lastMonth next)
+    ∷ row 7 (not (eqb m next))
+    ∷ row 8 short
+    ∷ row 9 days
+    ∷ row 10 above
+    ∷ [])
+
+-- Closing: rows 1, 3.
+unfoldable pub closingRow : Bool → Bool → ℕ
+closingRow fresh unusable = firstOf (row 1 fresh ∷ row 3 unusable ∷ [])

@@ -1,0 +1,79 @@
+// The table of refusals of document 01: the number that each call is given, or 0.
+ghost use mathlib.Core.Path.{_≡_};
+ghost use Rattle.refusals.specs.Table.{openingRow, repricingRow, billingRow, closingRow};
+use tariff::PriceList;
+use tariff::Terms;
+
+// Opening an account that is open already or not, and that can be used or not.
+pub fn opening_row(opened: bool, unusable: bool, terms: Terms, prices: PriceList, month: u32) -> u32
+    ensures { λ r. ⌜ r ≡ openingRow opened unusable terms prices month ⌝ }
+{
+    if opened {
+        return 2;
+    }
+    if unusable {
+        return 3;
+    }
+    if tariff::prices_refused(prices) {
+        return 4;
+    }
+    if tariff::capacity_refused(terms) {
+        return 5;
+    }
+    if tariff::bridge_refused(terms) {
+        return 6;
+    }
+    if calendar::LAST_MONTH < month { 7 } else { 0 }
+}
+
+// Closing: rows 1 and 3, which are also the first rows of a repricing and a billing.
+pub fn closing_row(fresh: bool, unusable: bool) -> u32
+    ensures { λ r. ⌜ r ≡ closingRow fresh unusable ⌝ }
+{
+    if fresh {
+        return 1;
+    }
+    if unusable { 3 } else { 0 }
+}
+
+// Repricing.
+pub fn repricing_row(fresh: bool, unusable: bool, prices: PriceList) -> u32
+    ensures { λ r. ⌜ r ≡ repricingRow fresh unusable prices ⌝ }
+{
+    let number = closing_row(fresh, unusable);
+    if number != 0 {
+        return number;
+    }
+    if tariff::prices_refused(prices) { 4 } else { 0 }
+}
+
+// Billing, from what its registers and critical days were found to be.
+pub fn billing_row(
+    fresh: bool,
+    unusable: bool,
+    next: u32,
+    month: u32,
+    short: bool,
+    days: bool,
+    above: bool,
+) -> u32
+    ensures { λ r. ⌜ r ≡ billingRow fresh unusable next month short days above ⌝ }
+{
+    let number = closing_row(fresh, unusable);
+    if number != 0 {
+        return number;
+    }
+    if calendar::LAST_MONTH < next {
+        return 11;
+    }
+    if month != next {
+        return 7;
+    }
+    if short {
+        return 8;
+    }
+    if days {
+        return 9;
+    }
+    if above { 10 } else { 0 }
+}
