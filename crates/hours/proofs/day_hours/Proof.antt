@@ -16,7 +16,14 @@ is-critical-requires : tie.Need-is-critical-requires
 is-critical-requires c κs = search needs
 
 returns : tie.Need-returns
-returns c = (cc, c .is-critical .ensures)
+returns c = (
+  rw (
+    c .before .row-start .ensures,
+    c .before .before .before .season-of .ensures,
+    c .before .before .day-kind-of .ensures,
+  ),
+  c .is-critical .ensures,
+)
 
 pub day-hours-spec : {M : Type 1} → statement M
 day-hours-spec =
