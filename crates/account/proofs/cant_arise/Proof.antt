@@ -10,16 +10,16 @@ some-over-requires c κs = search needs
 
 returns : tie.Need-returns
 unfolding cantArise
-returns c = simp (← (c .before .some-over .ensures), c .if1 .taken)
+returns c = rw (← (c .before .some-over .ensures), c .if1 .taken)
 
 returns-2 : tie.Need-returns-2
 unfolding cantArise
-returns-2 c = simp (← (c .before .before .before .some-over .ensures), c .before .before .if1 .left, lt-ltb _ _ (c .if2 .taken))
+returns-2 c = rw (← (c .before .before .before .some-over .ensures), c .before .before .if1 .left, lt-ltb _ _ (c .if2 .taken))
 
 returns-3 : tie.Need-returns-3
 unfolding cantArise
 returns-3 c =
-    simp (
+    rw (
       ← (c .before .before .before .before .before .some-over .ensures),
       c .before .before .before .before .if1 .left,
       le-ltb _ _ (c .before .before .if2 .left),
@@ -35,7 +35,7 @@ contents-refused-requires c κs = search needs
 returns-4 : tie.Need-returns-4
 unfolding cantArise
 returns-4 c =
-    simp (
+    rw (
       ← (c .before .before .before .before .before .before .before .before .some-over .ensures),
       c .before .before .before .before .before .before .before .if1 .left,
       le-ltb _ _ (c .before .before .before .before .before .if2 .left),
@@ -48,7 +48,7 @@ returns-4 c =
 returns-5 : tie.Need-returns-5
 unfolding cantArise
 returns-5 c =
-    simp (
+    rw (
       ← (c .before .before .before .before .before .before .before .some-over .ensures),
       c .before .before .before .before .before .before .if1 .left,
       le-ltb _ _ (c .before .before .before .before .if2 .left),

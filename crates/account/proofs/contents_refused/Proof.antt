@@ -9,7 +9,7 @@ prices-refused-requires c κs = search needs
 
 returns : tie.Need-returns
 unfolding contentsRefused
-returns c = simp (← (c .before .prices-refused .ensures), c .if1 .taken)
+returns c = rw (← (c .before .prices-refused .ensures), c .if1 .taken)
 
 capacity-refused-requires : tie.Need-capacity-refused-requires
 capacity-refused-requires c κs = search needs
@@ -17,7 +17,7 @@ capacity-refused-requires c κs = search needs
 returns-2 : tie.Need-returns-2
 unfolding contentsRefused
 returns-2 c =
-    simp (
+    rw (
       ← (c .before .before .before .prices-refused .ensures),
       c .before .before .if1 .left,
       ← (c .before .capacity-refused .ensures),
@@ -30,7 +30,7 @@ bridge-refused-requires c κs = search needs
 returns-3 : tie.Need-returns-3
 unfolding contentsRefused
 returns-3 c =
-    simp (
+    rw (
       ← (c .before .before .before .before .prices-refused .ensures),
       c .before .before .before .if1 .left,
       ← (c .before .before .capacity-refused .ensures),

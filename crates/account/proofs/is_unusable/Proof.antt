@@ -9,14 +9,14 @@ is-closed-requires c κs = search needs
 
 returns : tie.Need-returns
 unfolding unusable
-returns c = simp (← (c .before .is-closed .ensures), c .if1 .taken)
+returns c = rw (← (c .before .is-closed .ensures), c .if1 .taken)
 
 cant-arise-requires : tie.Need-cant-arise-requires
 cant-arise-requires c κs = search needs
 
 returns-2 : tie.Need-returns-2
 unfolding unusable
-returns-2 c = simp (← (c .before .before .is-closed .ensures), c .before .if1 .left, c .cant-arise .ensures)
+returns-2 c = rw (← (c .before .before .is-closed .ensures), c .before .if1 .left, c .cant-arise .ensures)
 
 pub is-unusable-spec : {M : Type 1} → statement M
 is-unusable-spec = tie.close (tie.spec is-closed-requires returns cant-arise-requires returns-2)

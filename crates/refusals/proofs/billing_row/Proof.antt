@@ -17,25 +17,25 @@ returns-2 : tie.Need-returns-2
 unfolding billingRow
 returns-2 c =
     rw (later-row _ _ _ (c .before .before .closing-row .ensures) (c .before .if1 .left))
-    (simp (lt-ltb _ _ (c .if2 .taken)))
+    (rw (lt-ltb _ _ (c .if2 .taken)))
 
 returns-3 : tie.Need-returns-3
 unfolding billingRow
 returns-3 c =
     rw (later-row _ _ _ (c .before .before .before .closing-row .ensures) (c .before .before .if1 .left))
-    (simp (le-ltb _ _ (c .before .if2 .left), ne-eqb _ _ (c .if3 .taken)))
+    (rw (le-ltb _ _ (c .before .if2 .left), ne-eqb _ _ (c .if3 .taken)))
 
 returns-4 : tie.Need-returns-4
 unfolding billingRow
 returns-4 c =
     rw (later-row _ _ _ (c .before .before .before .before .closing-row .ensures) (c .before .before .before .if1 .left))
-    (simp (le-ltb _ _ (c .before .before .if2 .left), eq-eqb _ _ (c .before .if3 .left), c .if4 .taken))
+    (rw (le-ltb _ _ (c .before .before .if2 .left), eq-eqb _ _ (c .before .if3 .left), c .if4 .taken))
 
 returns-5 : tie.Need-returns-5
 unfolding billingRow
 returns-5 c =
     rw (later-row _ _ _ (c .before .before .before .before .before .closing-row .ensures) (c .before .before .before .before .if1 .left))
-    (simp (
+    (rw (
       le-ltb _ _ (c .before .before .before .if2 .left),
       eq-eqb _ _ (c .before .before .if3 .left),
       c .before .if4 .left,
@@ -46,7 +46,7 @@ returns-6 : tie.Need-returns-6
 unfolding billingRow
 returns-6 c =
     rw (later-row _ _ _ (c .before .before .before .before .before .before .closing-row .ensures) (c .before .before .before .before .before .if1 .left))
-    (simp (
+    (rw (
       le-ltb _ _ (c .before .before .before .before .if2 .left),
       eq-eqb _ _ (c .before .before .before .if3 .left),
       c .before .before .if4 .left,
@@ -58,7 +58,7 @@ returns-7 : tie.Need-returns-7
 unfolding billingRow
 returns-7 c =
     rw (later-row _ _ _ (c .before .before .before .before .before .before .closing-row .ensures) (c .before .before .before .before .before .if1 .left))
-    (simp (
+    (rw (
       le-ltb _ _ (c .before .before .before .before .if2 .left),
       eq-eqb _ _ (c .before .before .before .if3 .left),
       c .before .before .if4 .left,

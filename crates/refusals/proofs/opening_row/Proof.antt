@@ -7,11 +7,11 @@ use Rattle.refusals.proofs.opening_row.Tie as tie
 
 returns : tie.Need-returns
 unfolding openingRow
-returns c = simp (c .if1 .taken)
+returns c = rw (c .if1 .taken)
 
 returns-2 : tie.Need-returns-2
 unfolding openingRow
-returns-2 c = simp (c .before .if1 .left, c .if2 .taken)
+returns-2 c = rw (c .before .if1 .left, c .if2 .taken)
 
 prices-refused-requires : tie.Need-prices-refused-requires
 prices-refused-requires c κs = search needs
@@ -19,7 +19,7 @@ prices-refused-requires c κs = search needs
 returns-3 : tie.Need-returns-3
 unfolding openingRow
 returns-3 c =
-    simp (
+    rw (
       c .before .before .before .if1 .left,
       c .before .before .if2 .left,
       ← (c .before .prices-refused .ensures),
@@ -32,7 +32,7 @@ capacity-refused-requires c κs = search needs
 returns-4 : tie.Need-returns-4
 unfolding openingRow
 returns-4 c =
-    simp (
+    rw (
       c .before .before .before .before .before .if1 .left,
       c .before .before .before .before .if2 .left,
       ← (c .before .before .before .prices-refused .ensures),
@@ -47,7 +47,7 @@ bridge-refused-requires c κs = search needs
 returns-5 : tie.Need-returns-5
 unfolding openingRow
 returns-5 c =
-    simp (
+    rw (
       c .before .before .before .before .before .before .before .if1 .left,
       c .before .before .before .before .before .before .if2 .left,
       ← (c .before .before .before .before .before .prices-refused .ensures),
@@ -61,7 +61,7 @@ returns-5 c =
 returns-6 : tie.Need-returns-6
 unfolding openingRow
 returns-6 c =
-    simp (
+    rw (
       c .before .before .before .before .before .before .before .before .if1 .left,
       c .before .before .before .before .before .before .before .if2 .left,
       ← (c .before .before .before .before .before .before .prices-refused .ensures),
@@ -76,7 +76,7 @@ returns-6 c =
 returns-7 : tie.Need-returns-7
 unfolding openingRow
 returns-7 c =
-    simp (
+    rw (
       c .before .before .before .before .before .before .before .before .if1 .left,
       c .before .before .before .before .before .before .before .if2 .left,
       ← (c .before .before .before .before .before .before .prices-refused .ensures),

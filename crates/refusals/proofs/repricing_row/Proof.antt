@@ -18,11 +18,11 @@ prices-refused-requires c κs = search needs
 
 returns-2 : tie.Need-returns-2
 unfolding repricingRow
-returns-2 c = rw (later-row _ _ _ (c .before .before .before .closing-row .ensures) (c .before .before .if1 .left)) (simp (← (c .before .prices-refused .ensures), c .if2 .taken))
+returns-2 c = rw (later-row _ _ _ (c .before .before .before .closing-row .ensures) (c .before .before .if1 .left)) (rw (← (c .before .prices-refused .ensures), c .if2 .taken))
 
 returns-3 : tie.Need-returns-3
 unfolding repricingRow
-returns-3 c = rw (later-row _ _ _ (c .before .before .before .closing-row .ensures) (c .before .before .if1 .left)) (simp (← (c .before .prices-refused .ensures), c .if2 .left))
+returns-3 c = rw (later-row _ _ _ (c .before .before .before .closing-row .ensures) (c .before .before .if1 .left)) (rw (← (c .before .prices-refused .ensures), c .if2 .left))
 
 pub repricing-row-spec : {M : Type 1} → statement M
 repricing-row-spec =

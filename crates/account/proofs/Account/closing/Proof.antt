@@ -20,14 +20,14 @@ no-energy-requires c κs = search needs
 
 returns : tie.Need-returns
 unfolding closingReply closingNumber
-returns c = simp (← (c .before .before .before .before .is-fresh .ensures), ← (c .before .before .before .is-unusable .ensures), ← (c .before .before .closing-row .ensures), ne-eqb _ _ (c .before .if1 .taken), c .no-energy .ensures)
+returns c = rw (← (c .before .before .before .before .is-fresh .ensures), ← (c .before .before .before .is-unusable .ensures), ← (c .before .before .closing-row .ensures), ne-eqb _ _ (c .before .if1 .taken), c .no-energy .ensures)
 
 no-energy-requires-2 : tie.Need-no-energy-requires-2
 no-energy-requires-2 c κs = search needs
 
 returns-2 : tie.Need-returns-2
 unfolding closingReply closingNumber
-returns-2 c = simp (← (c .before .before .before .before .before .before .before .is-fresh .ensures), ← (c .before .before .before .before .before .before .is-unusable .ensures), ← (c .before .before .before .before .before .closing-row .ensures), eq-eqb _ _ (c .before .before .before .before .if1 .left), c .no-energy2 .ensures)
+returns-2 c = rw (← (c .before .before .before .before .before .before .before .is-fresh .ensures), ← (c .before .before .before .before .before .before .is-unusable .ensures), ← (c .before .before .before .before .before .closing-row .ensures), eq-eqb _ _ (c .before .before .before .before .if1 .left), c .no-energy2 .ensures)
 
 pub closing-spec : {M : Type 1} → statement M
 closing-spec =

@@ -17,14 +17,14 @@ opening-row-requires c κs = search needs
 
 returns : tie.Need-returns
 unfolding openingReply openingNumber
-returns c = simp (← (c .before .before .before .is-open .ensures), ← (c .before .before .is-unusable .ensures), ← (c .before .opening-row .ensures), ne-eqb _ _ (c .if1 .taken))
+returns c = rw (← (c .before .before .before .is-open .ensures), ← (c .before .before .is-unusable .ensures), ← (c .before .opening-row .ensures), ne-eqb _ _ (c .if1 .taken))
 
 no-energy-requires : tie.Need-no-energy-requires
 no-energy-requires c κs = search needs
 
 returns-2 : tie.Need-returns-2
 unfolding openingReply openingNumber
-returns-2 c = simp (← (c .before .before .before .before .is-open .ensures), ← (c .before .before .before .is-unusable .ensures), ← (c .before .before .opening-row .ensures), eq-eqb _ _ (c .before .if1 .left), c .no-energy .ensures)
+returns-2 c = rw (← (c .before .before .before .before .is-open .ensures), ← (c .before .before .before .is-unusable .ensures), ← (c .before .before .opening-row .ensures), eq-eqb _ _ (c .before .if1 .left), c .no-energy .ensures)
 
 pub opening-spec : {M : Type 1} → statement M
 opening-spec = tie.close (tie.spec is-open-requires is-unusable-requires opening-row-requires returns no-energy-requires returns-2)

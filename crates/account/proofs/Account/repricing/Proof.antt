@@ -17,11 +17,11 @@ repricing-row-requires c κs = search needs
 
 returns : tie.Need-returns
 unfolding repricingReply repricingNumber
-returns c = simp (← (c .before .before .before .is-fresh .ensures), ← (c .before .before .is-unusable .ensures), ← (c .before .repricing-row .ensures), ne-eqb _ _ (c .if1 .taken))
+returns c = rw (← (c .before .before .before .is-fresh .ensures), ← (c .before .before .is-unusable .ensures), ← (c .before .repricing-row .ensures), ne-eqb _ _ (c .if1 .taken))
 
 returns-2 : tie.Need-returns-2
 unfolding repricingReply repricingNumber
-returns-2 c = simp (← (c .before .before .before .before .before .is-fresh .ensures), ← (c .before .before .before .before .is-unusable .ensures), ← (c .before .before .before .repricing-row .ensures), eq-eqb _ _ (c .before .before .if1 .left))
+returns-2 c = rw (← (c .before .before .before .before .before .is-fresh .ensures), ← (c .before .before .before .before .is-unusable .ensures), ← (c .before .before .before .repricing-row .ensures), eq-eqb _ _ (c .before .before .if1 .left))
 
 pub repricing-spec : {M : Type 1} → statement M
 repricing-spec = tie.close (tie.spec is-fresh-requires is-unusable-requires repricing-row-requires returns returns-2)
