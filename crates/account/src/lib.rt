@@ -4,7 +4,6 @@ ghost use mathlib.Core.Path.{_≡_};
 ghost use mathlib.Core.Bool.{_||_};
 ghost use Prim.Native.Nat.{_≤_};
 ghost use Rattle.calendar.specs.Calendar.{lastMonth};
-ghost use Rattle.hours.specs.CriticalDays.{criticalRefused};
 ghost use Rattle.account.specs.Refusals.{isFresh, isOpen, isClosed};
 ghost use Rattle.account.specs.Refusals.{contentsRefused, cantArise, unusable};
 ghost use Rattle.account.specs.Account.{freshAccount, afterBill, openingReply, repricingReply, billingReply, closingReply};
