@@ -2,9 +2,11 @@
 use mathlib.Core.Path.{_≡_, refl, sym, _∙_}
 use mathlib.Core.Bool.{true, false, cond}
 use mathlib.Core.List.{List, [], _∷_, _++_}
-use Prim.Native.Nat.{ℕ, suc, _+_, _-_, _*_, _/_, _≤_, _<_, min}
+use Prim.Native.Nat.{ℕ, suc, _+_, _-_, _*_, _/_, _^_, _≤_, _<_, min}
 use native.Mathlib.Nat.{add-zero, add-suc, suc-add}
 use native.Mathlib.Omega.{arith}
+use mir.Syntax.{w64}
+use mir.Val.{Fits}
 use lib.Dec.{eqb}
 use lib.ListN.{length, getD, take, drop, set}
 use lib.Seq.{sets}
@@ -18,7 +20,7 @@ use Rattle.ledger.specs.Encoding.{callOf, rowsOf, decode, callsIn, recor
 use Rattle.ledger.specs.Running.{stepOf}
 use Rattle.ledger.specs.DemandThree.{Holds, DemandThree}
 use Rattle.ledger.proofs.Balances.{balanced}
-use Rattle.ledger.proofs.Decoding.{decode-none, decode-stop, decode-next}
+use Rattle.ledger.proofs.Decoding.{decode-none, decode-stop, decode-next, record-length}
 use Rattle.ledger.proofs.Reachable.{reachable}
 use Rattle.ledger.proofs.Roundtrip.{read-back}
 
@@ -60,6 +62,53 @@ pub record Running (calls delivered received before answers : List ℕ) (a : Acc
   pub same : length answers ≡ length before
   pub progress :
       Progress (callsIn calls delivered received) before (decode left (drop call calls) (drop taken delivered) (drop given received)) a row answers
+
+-- Before the first record nothing is taken.
+pub started : (calls delivered received before : List ℕ) (a : Account) → a ≡ freshAccount
+    → Running calls delivered received before before a (length calls / recordLength) 0 0 0 0
+unfolding callsIn
+started calls delivered received before a e =
+    record {
+      records = omega arith;
+      taken-in = omega arith;
+      given-in = omega arith;
+      rows = omega arith;
+      same = refl;
+      progress = start (callsIn calls delivered received) before a e;
+    }
+
+-- The next record is there, and so are the readings that it takes; and every place is a number of 64 bits, since a slice's bytes are.
+module _ {calls delivered received before answers : List ℕ} {a : Account} {left call taken given row : ℕ}
+    (g : Running calls delivered received before answers a left call taken given row) where
+  pub record-in : 0 < left → call + recordLength ≤ length calls
+  record-in h = omega (arith, g .records)
+
+  pub record-long : 0 < left → length (take (call + recordLength - call) (drop call calls)) ≡ recordLength
+  record-long h = record-length calls call (record-in h)
+
+  pub record-fits : 0 < left → length calls * 8 < 2 ^ 63 → Fits w64 (call + recordLength)
+  record-fits h b = record { fits = omega (arith, record-in h) }
+
+  pub call-fits : 0 < left → length calls * 8 < 2 ^ 63 → Fits w64 (call * 8)
+  call-fits h b = record { fits = omega (arith, record-in h) }
+
+  pub less : 0 < left → left - 1 < left
+  less h = omega arith
+
+  pub row-fits : 0 < left → length calls * 8 < 2 ^ 63 → Fits w64 (row + rowLength)
+  row-fits h b = record { fits = omega (arith, g .rows) }
+
+-- From a place in a register of n readings a call takes the smaller of what it says and what is left.
+module _ {place n : ℕ} (h : place ≤ n) (b : n * 4 < 2 ^ 63) where
+  pub place-fits : Fits w64 (place * 4)
+  place-fits = record { fits = omega arith }
+
+  module _ {count : ℕ} (said : ℕ) (e : count ≡ min said (n - place)) where
+    pub readings-in : place + count ≤ n
+    readings-in = omega arith
+
+    pub readings-fit : Fits w64 (place + count)
+    readings-fit = record { fits = omega arith }
 
 -- The calls read back are those that were lent.
 pub whole : (calls delivered received before after : List ℕ) (last : Account) → Holds (callsIn calls delivered received) before after last

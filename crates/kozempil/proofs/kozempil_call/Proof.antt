@@ -8,31 +8,31 @@ use Rattle.kozempil.proofs.kozempil_call.Statement.{statement}
 use Rattle.kozempil.proofs.kozempil_call.Tie as tie
 
 is-account-requires : tie.Need-is-account-requires
-is-account-requires c κs = search needs
+is-account-requires c κs = tt
 
 account-at-requires : tie.Need-account-at-requires
 account-at-requires c κs = account-numbers _ (sym (c .before .is-account .ensures) ∙ c .if1 .taken)
 
 answer-record-requires : tie.Need-answer-record-requires
-answer-record-requires c κs = search needs
+answer-record-requires c κs = tt
 
 account-row-requires : tie.Need-account-row-requires
-account-row-requires c κs = search needs
+account-row-requires c κs = tt
 
 row-of-requires : tie.Need-row-of-requires
-row-of-requires c κs = search needs
+row-of-requires c κs = tt
 
 slice-aggregate-write-numbers : tie.Need-slice-aggregate-write-numbers
 slice-aggregate-write-numbers c = search needs
 
 write-numbers-requires : tie.Need-write-numbers-requires
-write-numbers-requires c κs = search needs
+write-numbers-requires c κs = tt
 
 slice-aggregate-write-numbers-2 : tie.Need-slice-aggregate-write-numbers-2
 slice-aggregate-write-numbers-2 c = search needs
 
 write-numbers-requires-2 : tie.Need-write-numbers-requires-2
-write-numbers-requires-2 c κs = search needs
+write-numbers-requires-2 c κs = tt
 
 same-length : tie.Need-same-length
 same-length c = search needs

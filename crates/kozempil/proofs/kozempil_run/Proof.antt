@@ -4,16 +4,16 @@ use Rattle.kozempil.proofs.kozempil_run.Statement.{statement}
 use Rattle.kozempil.proofs.kozempil_run.Tie as tie
 
 run-requires : tie.Need-run-requires
-run-requires c κs = search needs
+run-requires c κs = tt
 
 account-row-requires : tie.Need-account-row-requires
-account-row-requires c κs = search needs
+account-row-requires c κs = tt
 
 slice-aggregate-write-numbers : tie.Need-slice-aggregate-write-numbers
 slice-aggregate-write-numbers c = search needs
 
 write-numbers-requires : tie.Need-write-numbers-requires
-write-numbers-requires c κs = search needs
+write-numbers-requires c κs = tt
 
 same-length : tie.Need-same-length
 same-length c = search needs

@@ -6,10 +6,10 @@ use Rattle.records.proofs.is_billing.Statement.{statement}
 use Rattle.records.proofs.is_billing.Tie as tie
 
 number-at-requires : tie.Need-number-at-requires
-number-at-requires c κs = search needs
+number-at-requires c κs = tt
 
 number-at-requires-2 : tie.Need-number-at-requires-2
-number-at-requires-2 c κs = search needs
+number-at-requires-2 c κs = tt
 
 returns : tie.Need-returns
 unfolding billingCodes

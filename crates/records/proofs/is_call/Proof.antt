@@ -6,17 +6,17 @@ use Rattle.records.proofs.is_call.Statement.{statement}
 use Rattle.records.proofs.is_call.Tie as tie
 
 number-at-requires : tie.Need-number-at-requires
-number-at-requires c κs = search needs
+number-at-requires c κs = tt
 
 is-opening-requires : tie.Need-is-opening-requires
-is-opening-requires c κs = search needs
+is-opening-requires c κs = tt
 
 returns : tie.Need-returns
 unfolding isCall
 returns c = rw (← (c .before .before .number-at .ensures), eq-eqb _ _ (c .before .if1 .taken)) (c .is-opening .ensures)
 
 is-billing-requires : tie.Need-is-billing-requires
-is-billing-requires c κs = search needs
+is-billing-requires c κs = tt
 
 returns-2 : tie.Need-returns-2
 unfolding isCall

@@ -6,14 +6,14 @@ use Rattle.records.proofs.is_opening.Statement.{statement}
 use Rattle.records.proofs.is_opening.Tie as tie
 
 number-at-requires : tie.Need-number-at-requires
-number-at-requires c κs = search needs
+number-at-requires c κs = tt
 
 returns : tie.Need-returns
 unfolding openingCodes
 returns c = rw (← (c .before .number-at .ensures), lt-leb _ _ (c .if1 .taken))
 
 number-at-requires-2 : tie.Need-number-at-requires-2
-number-at-requires-2 c κs = search needs
+number-at-requires-2 c κs = tt
 
 returns-2 : tie.Need-returns-2
 unfolding openingCodes
@@ -22,7 +22,7 @@ returns-2 c =
     rw (← (one .before .number-at .ensures), le-leb _ _ (one .if1 .left), ← (c .before .number-at2 .ensures), lt-leb _ _ (c .if2 .taken))
 
 number-at-requires-3 : tie.Need-number-at-requires-3
-number-at-requires-3 c κs = search needs
+number-at-requires-3 c κs = tt
 
 returns-3 : tie.Need-returns-3
 unfolding openingCodes
@@ -39,7 +39,7 @@ returns-3 c =
     )
 
 number-at-requires-4 : tie.Need-number-at-requires-4
-number-at-requires-4 c κs = search needs
+number-at-requires-4 c κs = tt
 
 returns-4 : tie.Need-returns-4
 unfolding openingCodes

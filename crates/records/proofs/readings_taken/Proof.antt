@@ -6,13 +6,13 @@ use Rattle.records.proofs.readings_taken.Statement.{statement}
 use Rattle.records.proofs.readings_taken.Tie as tie
 
 number-at-requires : tie.Need-number-at-requires
-number-at-requires c κs = search needs
+number-at-requires c κs = tt
 
 returns : tie.Need-returns
 returns c = rw (← (c .before .number-at .ensures), ne-eqb _ _ (c .if1 .taken), zero-min)
 
 number-at-requires-2 : tie.Need-number-at-requires-2
-number-at-requires-2 c κs = search needs
+number-at-requires-2 c κs = tt
 
 returns-2 : tie.Need-returns-2
 returns-2 c =
