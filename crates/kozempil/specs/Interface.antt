@@ -47,7 +47,8 @@ isAccount w =
     && leb (getD w 5 0) 1
     && ltb (getD w 17 0) (2 ^ 32)
 
--- The account of 23 numbers.
+-- The account of 23 numbers. What is written of an account is read back as that account: theorems `read-back` and `known` of
+-- proofs/Accounts.antt.
 abbrev pub stageAt : ℕ → Stage
 stageAt n = cond (eqb n 0) Fresh (cond (eqb n 1) Open Closed)
 
