@@ -69,5 +69,7 @@ module _ (calls delivered received : List ℕ) (call taken given : ℕ) where
 pub record-is : (calls : List ℕ) (call : ℕ) → take (call + recordLength - call) (drop call calls) ≡ take recordLength (drop call calls)
 record-is calls call = let e : call + recordLength - call ≡ recordLength = omega arith in rw e
 
-pub record-length : (calls : List ℕ) (call : ℕ) → call + recordLength ≤ length calls → length (take (call + recordLength - call) (drop call calls)) ≡ recordLength
-record-length calls call h = rw (record-is calls call) (length-take-le recordLength (drop call calls) (rw (length-drop call calls) (omega arith)))
+pub record-length : (calls : List ℕ) (call : ℕ) → call + recordLength ≤ length calls
+    → length (take (call + recordLength - call) (drop call calls)) ≡ recordLength
+record-length calls call h =
+    rw (record-is calls call) (length-take-le recordLength (drop call calls) (rw (length-drop call calls) (omega arith)))

@@ -144,7 +144,8 @@ module _ (calls delivered received before answers : List ℕ) (a : Account) (lef
       → r ≡ min (cond (eqb (kindOf w) 2) (getD w 3 0) 0) (length received - given)
       → s ≡ stepOf a (callOf w (take (taken + d - taken) (drop taken delivered)) (take (given + r - given) (drop given received)))
       → xs ≡ rowOf (s .answer) → after ≡ sets answers row xs → length after ≡ length answers
-      → Running calls delivered received before after (s .account) (left - 1) (call + recordLength) (taken + d) (given + r) (row + rowLength)
+      → Running calls delivered received before after
+      (s .account) (left - 1) (call + recordLength) (taken + d) (given + r) (row + rowLength)
   unfolding deliveredCount receivedCount
   advance d r w s xs after g h i k e f j o q l =
       let dd : taken + d - taken ≡ d = omega arith in

@@ -4,8 +4,8 @@ use borrow.Author.Tests.{not-true, not-false}
 use mathlib.Core.Path.{sym, _∙_}
 use native.Mathlib.Nat.{le-add-right}
 use Rattle.ledger.proofs.Decoding.{record-is}
-use Rattle.ledger.proofs.Progress.{Running, started, ended, stopped, advance, record-in, record-long, record-fits, call-fits, row-fits, less}
-use Rattle.ledger.proofs.Progress.{place-fits, readings-in, readings-fit}
+use Rattle.ledger.proofs.Progress.{Running, started, ended, stopped, advance}
+use Rattle.ledger.proofs.Progress.{record-in, record-long, record-fits, call-fits, row-fits, less, place-fits, readings-in, readings-fit}
 use Rattle.ledger.proofs.run.Statement.{statement}
 use Rattle.ledger.proofs.run.Tie as tie
 
@@ -24,10 +24,14 @@ loop-holds : tie.Need-loop-holds Inv-loop μ-loop
 loop-holds c = started _ _ _ _ _ (c .fresh .ensures)
 
 add-end : tie.Need-add-end Inv-loop μ-loop
-add-end c = record-fits (c .before .loop .inv) (c .loop-test .taken) (c .before .before .before .before .before .before .before .good .0 .1)
+add-end c =
+    let good = c .before .before .before .before .before .before .before .good in
+    record-fits (c .before .loop .inv) (c .loop-test .taken) (good .0 .1)
 
 mul-record : tie.Need-mul-record Inv-loop μ-loop
-mul-record c = call-fits (c .before .loop .inv) (c .loop-test .taken) (c .before .before .before .before .before .before .before .good .0 .1)
+mul-record c =
+    let good = c .before .before .before .before .before .before .before .good in
+    call-fits (c .before .loop .inv) (c .loop-test .taken) (good .0 .1)
 
 sub-record : tie.Need-sub-record Inv-loop μ-loop
 sub-record c = le-add-right _ _
@@ -46,8 +50,14 @@ same-length c = c .before .before .before .before .loop .inv .same
 
 returns : tie.Need-returns Inv-loop μ-loop
 returns c =
-    let lp = c .before .before .before .before in
-    stopped _ _ _ _ _ _ _ _ _ _ _ (lp .loop .inv) (c .before .before .before .loop-test .taken) _ (record-is (lp .before .before .before .before .before .before .args .calls .now) (lp .loop .call))
+    let step = c .before .before .before in
+    let lp = step .before in
+    stopped
+    _ _ _ _ _ _ _ _ _ _ _
+    (lp .loop .inv)
+    (step .loop-test .taken)
+    _
+    (record-is (lp .before .before .before .before .before .before .args .calls .now) (lp .loop .call))
     (sym (c .before .is-call .ensures) ∙ not-true (c .before .is-call .result) (c .if1 .taken))
 
 sub-readings-taken : tie.Need-sub-readings-taken Inv-loop μ-loop
@@ -59,7 +69,8 @@ readings-taken-requires c κs = tt
 add-taken-end : tie.Need-add-taken-end Inv-loop μ-loop
 add-taken-end c =
     let step = c .before .before .before .before in
-    readings-fit (step .before .loop .inv .taken-in) (step .before .before .before .before .before .before .before .good .1 .0 .1) _ (c .readings-taken .ensures)
+    let good = step .before .before .before .before .before .before .before .good in
+    readings-fit (step .before .loop .inv .taken-in) (good .1 .0 .1) _ (c .readings-taken .ensures)
 
 sub-readings-taken-2 : tie.Need-sub-readings-taken-2 Inv-loop μ-loop
 sub-readings-taken-2 c = c .before .before .before .before .before .loop .inv .given-in
@@ -70,12 +81,14 @@ readings-taken-requires-2 c κs = tt
 add-given-end : tie.Need-add-given-end Inv-loop μ-loop
 add-given-end c =
     let step = c .before .before .before .before .before in
-    readings-fit (step .before .loop .inv .given-in) (step .before .before .before .before .before .before .before .good .1 .1 .0 .1) _ (c .readings-taken2 .ensures)
+    let good = step .before .before .before .before .before .before .before .good in
+    readings-fit (step .before .loop .inv .given-in) (good .1 .1 .0 .1) _ (c .readings-taken2 .ensures)
 
 mul-answer-call : tie.Need-mul-answer-call Inv-loop μ-loop
 mul-answer-call c =
     let step = c .before .before .before .before .before in
-    place-fits (step .before .loop .inv .taken-in) (step .before .before .before .before .before .before .before .good .1 .0 .1)
+    let good = step .before .before .before .before .before .before .before .good in
+    place-fits (step .before .loop .inv .taken-in) (good .1 .0 .1)
 
 sub-answer-call : tie.Need-sub-answer-call Inv-loop μ-loop
 sub-answer-call c = le-add-right _ _
@@ -86,12 +99,14 @@ part-answer-call-start c = le-add-right _ _
 part-answer-call-end : tie.Need-part-answer-call-end Inv-loop μ-loop
 part-answer-call-end c =
     let step = c .before .before .before .before .before in
-    readings-in (step .before .loop .inv .taken-in) (step .before .before .before .before .before .before .before .good .1 .0 .1) _ (c .before .readings-taken .ensures)
+    let good = step .before .before .before .before .before .before .before .good in
+    readings-in (step .before .loop .inv .taken-in) (good .1 .0 .1) _ (c .before .readings-taken .ensures)
 
 mul-answer-call-2 : tie.Need-mul-answer-call-2 Inv-loop μ-loop
 mul-answer-call-2 c =
     let step = c .before .before .before .before .before .before in
-    place-fits (step .before .loop .inv .given-in) (step .before .before .before .before .before .before .before .good .1 .1 .0 .1)
+    let good = step .before .before .before .before .before .before .before .good in
+    place-fits (step .before .loop .inv .given-in) (good .1 .1 .0 .1)
 
 sub-answer-call-2 : tie.Need-sub-answer-call-2 Inv-loop μ-loop
 sub-answer-call-2 c = le-add-right _ _
@@ -102,12 +117,16 @@ part-answer-call-start-2 c = le-add-right _ _
 part-answer-call-end-2 : tie.Need-part-answer-call-end-2 Inv-loop μ-loop
 part-answer-call-end-2 c =
     let step = c .before .before .before .before .before .before in
-    readings-in (step .before .loop .inv .given-in) (step .before .before .before .before .before .before .before .good .1 .1 .0 .1) _ (c .before .readings-taken2 .ensures)
+    let good = step .before .before .before .before .before .before .before .good in
+    readings-in (step .before .loop .inv .given-in) (good .1 .1 .0 .1) _ (c .before .readings-taken2 .ensures)
 
 answer-call-requires : tie.Need-answer-call-requires Inv-loop μ-loop
 answer-call-requires c κs =
-    let step = c .before .before .before .before .before .before .before in
-    (record-long (step .before .loop .inv) (step .loop-test .taken), sym (c .before .before .before .before .before .is-call .ensures) ∙ not-false (c .before .before .before .before .before .is-call .result) (c .before .before .before .before .if1 .left))
+    let read = c .before .before .before .before in
+    let step = read .before .before .before in (
+      record-long (step .before .loop .inv) (step .loop-test .taken),
+      sym (read .before .is-call .ensures) ∙ not-false (read .before .is-call .result) (read .if1 .left),
+    )
 
 row-of-requires : tie.Need-row-of-requires Inv-loop μ-loop
 row-of-requires c κs = tt
@@ -119,12 +138,15 @@ write-numbers-requires : tie.Need-write-numbers-requires Inv-loop μ-loop
 write-numbers-requires c κs = tt
 
 sub-left : tie.Need-sub-left Inv-loop μ-loop
-sub-left c = c .before .before .before .before .before .before .before .before .before .before .before .before .before .before .before .loop-test .taken
+sub-left c =
+    let read = c .before .before .before .before .before .before .before .before .before .before .before .before in
+    read .before .before .before .loop-test .taken
 
 add-row : tie.Need-add-row Inv-loop μ-loop
 add-row c =
     let step = c .before .before .before .before .before .before .before .before .before .before .before .before .before .before .before in
-    row-fits (step .before .loop .inv) (step .loop-test .taken) (step .before .before .before .before .before .before .before .good .0 .1)
+    let good = step .before .before .before .before .before .before .before .good in
+    row-fits (step .before .loop .inv) (step .loop-test .taken) (good .0 .1)
 
 loop-less : tie.Need-loop-less Inv-loop μ-loop
 loop-less c =
@@ -133,16 +155,19 @@ loop-less c =
 
 loop-again : tie.Need-loop-again Inv-loop μ-loop
 loop-again c =
-    let lp = c .before .before .before .before .before .before .before .before .before .before .before .before .before .before .before .before in
+    let answered = c .before .before .before .before .before .before .before in
+    let read = answered .before .before .before .before .before in
+    let step = read .before .before .before in
+    let lp = step .before in
     advance
     _ _ _ _ _ _ _ _ _ _ _ _ _ _ _ _ _
     (lp .loop .inv)
-    (c .before .before .before .before .before .before .before .before .before .before .before .before .before .before .before .loop-test .taken)
+    (step .loop-test .taken)
     (record-is (lp .before .before .before .before .before .before .args .calls .now) (lp .loop .call))
-    (sym (c .before .before .before .before .before .before .before .before .before .before .before .before .before .is-call .ensures) ∙ not-false (c .before .before .before .before .before .before .before .before .before .before .before .before .before .is-call .result) (c .before .before .before .before .before .before .before .before .before .before .before .before .if1 .left))
-    (c .before .before .before .before .before .before .before .before .before .before .before .readings-taken .ensures)
-    (c .before .before .before .before .before .before .before .before .before .before .readings-taken2 .ensures)
-    (c .before .before .before .before .before .before .before .answer-call .ensures)
+    (sym (read .before .is-call .ensures) ∙ not-false (read .before .is-call .result) (read .if1 .left))
+    (answered .before .before .before .before .readings-taken .ensures)
+    (answered .before .before .before .readings-taken2 .ensures)
+    (answered .answer-call .ensures)
     (c .before .before .before .before .before .row-of .ensures)
     (c .before .before .write-numbers .ensures)
     (c .before .before .write-numbers .kept .0)
