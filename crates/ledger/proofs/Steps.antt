@@ -17,10 +17,10 @@ use Rattle.account.specs.declared.Stage.the-variants.{Fresh}
 use Rattle.account.specs.declared.Account.{Account}
 use Rattle.account.specs.declared.ClosingAmounts.{ClosingAmounts}
 use Rattle.account.specs.Refusals.{isOpen, highestNext, contentsRefused, openingNumber, repricingNumber, billingNumber, closingNumber}
-use Rattle.account.specs.Account.{freshAccount, billOf, openingReply, repricingReply, billingReply, closingReply}
+use Rattle.account.specs.Account.{freshAccount, noAmounts, billOf, openingReply, repricingReply, billingReply, closingReply}
 use Rattle.account.proofs.Accepted.{Contents, opening-accepted, repricing-accepted, billing-accepted}
-use Rattle.ledger.specs.declared.Answer.{Answer}
-use Rattle.ledger.specs.Ledger.{Call, opening, repricing, billing, closing, noAmounts, answerOf, accountAfter}
+use Rattle.records.specs.declared.Answer.{Answer}
+use Rattle.ledger.specs.Ledger.{Call, opening, repricing, billing, closing, answerOf, accountAfter}
 use Rattle.ledger.specs.Balances.{Period, Critical, OnPeak, OffPeak, Discount, amountOf, deliveredBy, exportedBy, ChargedLast}
 use Rattle.ledger.proofs.Bills.{by-period-at, none-at, bill-balanced, bill-held}
 use Rattle.ledger.proofs.Readings.{monthMost, total-within}

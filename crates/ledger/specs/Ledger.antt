@@ -3,11 +3,10 @@ use mathlib.Core.List.{List, [], _∷_}
 use Prim.Native.Nat.{ℕ}
 use Rattle.tariff.specs.declared.Terms.{Terms}
 use Rattle.tariff.specs.declared.PriceList.{PriceList}
-use Rattle.billing.specs.Billing.{none, noBill}
+use Rattle.billing.specs.Billing.{noBill}
 use Rattle.account.specs.declared.Account.{Account}
-use Rattle.account.specs.declared.ClosingAmounts.{ClosingAmounts}
-use Rattle.account.specs.Account.{openingReply, repricingReply, billingReply, closingReply}
-use Rattle.ledger.specs.declared.Answer.{Answer}
+use Rattle.account.specs.Account.{noAmounts, openingReply, repricingReply, billingReply, closingReply}
+use Rattle.records.specs.declared.Answer.{Answer}
 
 -- A call: an opening with terms, price list and first month; a repricing; a billing with month, delivered, received and critical days;
 -- a closing.
@@ -16,10 +15,6 @@ pub data Call : Type 0 where
   repricing : PriceList → Call
   billing : ℕ → List ℕ → List ℕ → ℕ → Call
   closing : Call
-
--- The amounts of a closing that is refused, and of the other calls.
-abbrev pub noAmounts : ClosingAmounts
-noAmounts = record { forfeited = none; refunded = 0 }
 
 -- The answer to a call on an account: its number and every amount. A call has 0 in the amounts that it doesn't return.
 unfoldable pub answerOf : Account → Call → Answer

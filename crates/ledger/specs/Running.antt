@@ -2,9 +2,10 @@
 use Prim.Native.Nat.{ℕ}
 use Rattle.billing.specs.Billing.{noBill}
 use Rattle.account.specs.declared.Account.{Account}
-use Rattle.ledger.specs.declared.Answer.{Answer}
+use Rattle.account.specs.Account.{noAmounts}
+use Rattle.records.specs.declared.Answer.{Answer}
 use Rattle.ledger.specs.declared.Step.{Step}
-use Rattle.ledger.specs.Ledger.{Call, noAmounts, answerOf, accountAfter}
+use Rattle.ledger.specs.Ledger.{Call, answerOf, accountAfter}
 
 -- An answer that is a number alone.
 abbrev pub plainAnswer : ℕ → Answer

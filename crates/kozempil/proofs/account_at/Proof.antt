@@ -8,13 +8,13 @@ shared-slice-read-stage-at : tie.Need-shared-slice-read-stage-at
 shared-slice-read-stage-at c = search needs
 
 stage-at-requires : tie.Need-stage-at-requires
-stage-at-requires c κs = search needs
+stage-at-requires c κs = tt
 
 terms-at-requires : tie.Need-terms-at-requires
-terms-at-requires c κs = search needs
+terms-at-requires c κs = tt
 
 prices-at-requires : tie.Need-prices-at-requires
-prices-at-requires c κs = search needs
+prices-at-requires c κs = tt
 
 shared-slice-read-next : tie.Need-shared-slice-read-next
 shared-slice-read-next c = search needs
@@ -23,7 +23,7 @@ cast-next : tie.Need-cast-next
 cast-next c = search needs
 
 four-at-requires : tie.Need-four-at-requires
-four-at-requires c κs = search needs
+four-at-requires c κs = tt
 
 shared-slice-read-standing : tie.Need-shared-slice-read-standing
 shared-slice-read-standing c = search needs

@@ -8,16 +8,16 @@ cast-next : tie.Need-cast-next
 cast-next c = search needs
 
 stage-code-requires : tie.Need-stage-code-requires
-stage-code-requires c κs = search needs
+stage-code-requires c κs = tt
 
 rider-code-requires : tie.Need-rider-code-requires
-rider-code-requires c κs = search needs
+rider-code-requires c κs = tt
 
 class-code-requires : tie.Need-class-code-requires
-class-code-requires c κs = search needs
+class-code-requires c κs = tt
 
 yes-code-requires : tie.Need-yes-code-requires
-yes-code-requires c κs = search needs
+yes-code-requires c κs = tt
 
 returns : tie.Need-returns
 unfolding accountRow

@@ -1,44 +1,45 @@
 -- `kozempil::kozempil_call` writes what `ledger::answer_record` answers, where the numbers are an account and a call.
-use borrow.Author.Needs.{needs}
 use mathlib.Core.Path.{sym, ap, _∙_}
 use lib.Seq.{sets}
-use Rattle.ledger.specs.Encoding.{rowOf}
+use Rattle.records.specs.Rows.{rowOf}
+use Rattle.kozempil.specs.Interface.{accountRow}
 use Rattle.kozempil.proofs.Calls.{account-numbers, answered, not-answered, answer-is, account-is, no-account}
 use Rattle.kozempil.proofs.kozempil_call.Statement.{statement}
 use Rattle.kozempil.proofs.kozempil_call.Tie as tie
 
 is-account-requires : tie.Need-is-account-requires
-is-account-requires c κs = search needs
+is-account-requires c κs = tt
 
 account-at-requires : tie.Need-account-at-requires
 account-at-requires c κs = account-numbers _ (sym (c .before .is-account .ensures) ∙ c .if1 .taken)
 
 answer-record-requires : tie.Need-answer-record-requires
-answer-record-requires c κs = search needs
+answer-record-requires c κs = tt
 
 account-row-requires : tie.Need-account-row-requires
-account-row-requires c κs = search needs
+account-row-requires c κs = tt
 
 row-of-requires : tie.Need-row-of-requires
-row-of-requires c κs = search needs
+row-of-requires c κs = tt
 
 slice-aggregate-write-numbers : tie.Need-slice-aggregate-write-numbers
-slice-aggregate-write-numbers c = search needs
+slice-aggregate-write-numbers c = rw (c .before .before .row-of .ensures)
 
 write-numbers-requires : tie.Need-write-numbers-requires
-write-numbers-requires c κs = search needs
+write-numbers-requires c κs = tt
 
 slice-aggregate-write-numbers-2 : tie.Need-slice-aggregate-write-numbers-2
-slice-aggregate-write-numbers-2 c = search needs
+unfolding accountRow
+slice-aggregate-write-numbers-2 c = rw (c .before .before .before .before .before .before .before .before .account-row .ensures)
 
 write-numbers-requires-2 : tie.Need-write-numbers-requires-2
-write-numbers-requires-2 c κs = search needs
+write-numbers-requires-2 c κs = tt
 
 same-length : tie.Need-same-length
-same-length c = search needs
+same-length c = c .before .before .before .before .before .before .before .write-numbers .kept .0
 
 same-length-2 : tie.Need-same-length-2
-same-length-2 c = search needs
+same-length-2 c = c .before .before .write-numbers2 .kept .0
 
 returns : tie.Need-returns
 returns c =

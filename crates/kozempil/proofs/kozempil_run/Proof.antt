@@ -1,25 +1,26 @@
 -- `kozempil::kozempil_run` hands on what `ledger::run` promises of every list, and writes the last account.
-use borrow.Author.Needs.{needs}
+use Rattle.kozempil.specs.Interface.{accountRow}
 use Rattle.kozempil.proofs.kozempil_run.Statement.{statement}
 use Rattle.kozempil.proofs.kozempil_run.Tie as tie
 
 run-requires : tie.Need-run-requires
-run-requires c κs = search needs
+run-requires c κs = tt
 
 account-row-requires : tie.Need-account-row-requires
-account-row-requires c κs = search needs
+account-row-requires c κs = tt
 
 slice-aggregate-write-numbers : tie.Need-slice-aggregate-write-numbers
-slice-aggregate-write-numbers c = search needs
+unfolding accountRow
+slice-aggregate-write-numbers c = rw (c .before .before .account-row .ensures)
 
 write-numbers-requires : tie.Need-write-numbers-requires
-write-numbers-requires c κs = search needs
+write-numbers-requires c κs = tt
 
 same-length : tie.Need-same-length
-same-length c = search needs
+same-length c = c .before .before .before .before .before .before .before .before .run .kept .1 .1 .1 .0
 
 same-length-2 : tie.Need-same-length-2
-same-length-2 c = search needs
+same-length-2 c = c .before .before .write-numbers .kept .0
 
 returns : tie.Need-returns
 returns c =

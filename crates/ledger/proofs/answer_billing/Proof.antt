@@ -6,10 +6,10 @@ use Rattle.ledger.proofs.answer_billing.Statement.{statement}
 use Rattle.ledger.proofs.answer_billing.Tie as tie
 
 billing-requires : tie.Need-billing-requires
-billing-requires c κs = search needs
+billing-requires c κs = tt
 
 no-energy-requires : tie.Need-no-energy-requires
-no-energy-requires c κs = search needs
+no-energy-requires c κs = tt
 
 returns : tie.Need-returns
 unfolding stepOf answerOf accountAfter

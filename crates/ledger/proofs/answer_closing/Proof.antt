@@ -6,10 +6,10 @@ use Rattle.ledger.proofs.answer_closing.Statement.{statement}
 use Rattle.ledger.proofs.answer_closing.Tie as tie
 
 closing-requires : tie.Need-closing-requires
-closing-requires c κs = search needs
+closing-requires c κs = tt
 
 no-bill-requires : tie.Need-no-bill-requires
-no-bill-requires c κs = search needs
+no-bill-requires c κs = tt
 
 returns : tie.Need-returns
 unfolding stepOf answerOf accountAfter

@@ -6,10 +6,10 @@ use Rattle.ledger.proofs.answer_opening.Statement.{statement}
 use Rattle.ledger.proofs.answer_opening.Tie as tie
 
 opening-requires : tie.Need-opening-requires
-opening-requires c κs = search needs
+opening-requires c κs = tt
 
 plain-answer-requires : tie.Need-plain-answer-requires
-plain-answer-requires c κs = search needs
+plain-answer-requires c κs = tt
 
 returns : tie.Need-returns
 unfolding stepOf answerOf accountAfter

@@ -8,14 +8,14 @@ use Rattle.ledger.proofs.answer_record.Statement.{statement}
 use Rattle.ledger.proofs.answer_record.Tie as tie
 
 plain-answer-requires : tie.Need-plain-answer-requires
-plain-answer-requires c κs = search needs
+plain-answer-requires c κs = tt
 
 returns : tie.Need-returns
 unfolding answeredOf
 returns c = simp (ne-eqb _ _ (c .before .if1 .taken), c .plain-answer .ensures)
 
 is-call-requires : tie.Need-is-call-requires
-is-call-requires c κs = search needs
+is-call-requires c κs = tt
 
 answer-call-requires : tie.Need-answer-call-requires
 answer-call-requires c κs = (c .before .before .if1 .left, sym (c .before .is-call .ensures) ∙ c .if2 .taken)
@@ -25,7 +25,7 @@ unfolding answeredOf stepOf
 returns-2 c = rw (eq-eqb _ _ (c .before .before .before .before .before .if1 .left), ← (c .before .before .before .before .is-call .ensures), c .before .before .before .if2 .taken, c .before .before .answer-call .ensures)
 
 plain-answer-requires-2 : tie.Need-plain-answer-requires-2
-plain-answer-requires-2 c κs = search needs
+plain-answer-requires-2 c κs = tt
 
 returns-3 : tie.Need-returns-3
 unfolding answeredOf

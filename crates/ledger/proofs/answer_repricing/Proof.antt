@@ -6,10 +6,10 @@ use Rattle.ledger.proofs.answer_repricing.Statement.{statement}
 use Rattle.ledger.proofs.answer_repricing.Tie as tie
 
 repricing-requires : tie.Need-repricing-requires
-repricing-requires c κs = search needs
+repricing-requires c κs = tt
 
 plain-answer-requires : tie.Need-plain-answer-requires
-plain-answer-requires c κs = search needs
+plain-answer-requires c κs = tt
 
 returns : tie.Need-returns
 unfolding stepOf answerOf accountAfter

@@ -4,10 +4,10 @@ use Rattle.ledger.proofs.plain_answer.Statement.{statement}
 use Rattle.ledger.proofs.plain_answer.Tie as tie
 
 no-bill-requires : tie.Need-no-bill-requires
-no-bill-requires c κs = search needs
+no-bill-requires c κs = tt
 
 no-energy-requires : tie.Need-no-energy-requires
-no-energy-requires c κs = search needs
+no-energy-requires c κs = tt
 
 returns : tie.Need-returns
 returns c = rw (c .before .no-bill .ensures, c .no-energy .ensures)

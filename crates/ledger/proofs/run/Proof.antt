@@ -1,13 +1,11 @@
 -- `ledger::run` reads, answers and writes record after record: `Progress` says what is left, and `Decoding` what a record is.
-use native.Mathlib.Omega.{arith}
 use borrow.Author.Needs.{needs}
-use Rattle.ledger.proofs.Progress.{Running, start, ended, stopped, advance}
-use mathlib.Core.Path.{_≡_, refl, sym, _∙_}
-use Prim.Native.Nat.{_+_, _-_, _≤_}
 use borrow.Author.Tests.{not-true, not-false}
-use lib.ListN.{length, take, drop}
-use Rattle.ledger.specs.Encoding.{callsIn}
-use Rattle.ledger.proofs.Decoding.{record-is, record-length}
+use mathlib.Core.Path.{sym, _∙_}
+use native.Mathlib.Nat.{le-add-right}
+use Rattle.ledger.proofs.Decoding.{record-is}
+use Rattle.ledger.proofs.Progress.{Running, started, ended, stopped, advance}
+use Rattle.ledger.proofs.Progress.{record-in, record-long, record-fits, call-fits, row-fits, less, place-fits, readings-in, readings-fit}
 use Rattle.ledger.proofs.run.Statement.{statement}
 use Rattle.ledger.proofs.run.Tie as tie
 
@@ -19,142 +17,163 @@ abbrev μ-loop : tie.MeasureT-loop
 μ-loop calls delivered received answers₀ account₀ left₀ call₀ taken₀ given₀ row₀ answers account left call taken given row =
     left
 
--- A record has eighteen numbers.
-long : (c : tie.In-loop Inv-loop μ-loop) →
-    length
-    (take
-    (c .before .loop .call + 18 - c .before .loop .call)
-    (drop (c .before .loop .call) (c .before .before .before .before .before .before .before .args .calls .now)))
-    ≡ 18
-long c =
-    record-length (c .before .before .before .before .before .before .before .args .calls .now) (c .before .loop .call)
-    (omega (arith, c .before .loop .inv .records, c .loop-test .taken))
-
 fresh-requires : tie.Need-fresh-requires Inv-loop μ-loop
-fresh-requires c κs = search needs
+fresh-requires c κs = tt
 
 loop-holds : tie.Need-loop-holds Inv-loop μ-loop
-unfolding callsIn
-loop-holds c =
-    record {
-      records = omega arith;
-      taken-in = omega arith;
-      given-in = omega arith;
-      rows = omega arith;
-      same = refl;
-      progress = start _ _ _ (c .fresh .ensures);
-    }
+loop-holds c = started _ _ _ _ _ (c .fresh .ensures)
 
 add-end : tie.Need-add-end Inv-loop μ-loop
-add-end c = omega arith
+add-end c =
+    let good = c .before .before .before .before .before .before .before .good in
+    record-fits (c .before .loop .inv) (c .loop-test .taken) (good .0 .1)
 
 mul-record : tie.Need-mul-record Inv-loop μ-loop
-mul-record c = omega arith
+mul-record c =
+    let good = c .before .before .before .before .before .before .before .good in
+    call-fits (c .before .loop .inv) (c .loop-test .taken) (good .0 .1)
 
 sub-record : tie.Need-sub-record Inv-loop μ-loop
-sub-record c = omega arith
+sub-record c = le-add-right _ _
 
 part-record-start : tie.Need-part-record-start Inv-loop μ-loop
-part-record-start c = omega arith
+part-record-start c = le-add-right _ _
 
 part-record-end : tie.Need-part-record-end Inv-loop μ-loop
-part-record-end c = omega arith
+part-record-end c = record-in (c .before .loop .inv) (c .loop-test .taken)
 
 is-call-requires : tie.Need-is-call-requires Inv-loop μ-loop
-is-call-requires c κs = long (c .before)
+is-call-requires c κs = tt
 
 same-length : tie.Need-same-length Inv-loop μ-loop
-same-length c = omega arith
+same-length c = c .before .before .before .before .loop .inv .same
 
 returns : tie.Need-returns Inv-loop μ-loop
 returns c =
-    let lp = c .before .before .before .before in
-    stopped _ _ _ _ _ _ _ _ _ _ _ (lp .loop .inv) (c .before .before .before .loop-test .taken) _ (record-is (lp .before .before .before .before .before .before .args .calls .now) (lp .loop .call))
+    let step = c .before .before .before in
+    let lp = step .before in
+    stopped
+    _ _ _ _ _ _ _ _ _ _ _
+    (lp .loop .inv)
+    (step .loop-test .taken)
+    _
+    (record-is (lp .before .before .before .before .before .before .args .calls .now) (lp .loop .call))
     (sym (c .before .is-call .ensures) ∙ not-true (c .before .is-call .result) (c .if1 .taken))
 
 sub-readings-taken : tie.Need-sub-readings-taken Inv-loop μ-loop
-sub-readings-taken c = omega arith
+sub-readings-taken c = c .before .before .before .before .loop .inv .taken-in
 
 readings-taken-requires : tie.Need-readings-taken-requires Inv-loop μ-loop
-readings-taken-requires c κs = (long (c .before .before .before), omega arith)
+readings-taken-requires c κs = tt
 
 add-taken-end : tie.Need-add-taken-end Inv-loop μ-loop
-add-taken-end c = omega arith
+add-taken-end c =
+    let step = c .before .before .before .before in
+    let good = step .before .before .before .before .before .before .before .good in
+    readings-fit (step .before .loop .inv .taken-in) (good .1 .0 .1) _ (c .readings-taken .ensures)
 
 sub-readings-taken-2 : tie.Need-sub-readings-taken-2 Inv-loop μ-loop
-sub-readings-taken-2 c = omega arith
+sub-readings-taken-2 c = c .before .before .before .before .before .loop .inv .given-in
 
 readings-taken-requires-2 : tie.Need-readings-taken-requires-2 Inv-loop μ-loop
-readings-taken-requires-2 c κs = (long (c .before .before .before .before), omega arith)
+readings-taken-requires-2 c κs = tt
 
 add-given-end : tie.Need-add-given-end Inv-loop μ-loop
-add-given-end c = omega arith
+add-given-end c =
+    let step = c .before .before .before .before .before in
+    let good = step .before .before .before .before .before .before .before .good in
+    readings-fit (step .before .loop .inv .given-in) (good .1 .1 .0 .1) _ (c .readings-taken2 .ensures)
 
 mul-answer-call : tie.Need-mul-answer-call Inv-loop μ-loop
-mul-answer-call c = omega arith
+mul-answer-call c =
+    let step = c .before .before .before .before .before in
+    let good = step .before .before .before .before .before .before .before .good in
+    place-fits (step .before .loop .inv .taken-in) (good .1 .0 .1)
 
 sub-answer-call : tie.Need-sub-answer-call Inv-loop μ-loop
-sub-answer-call c = omega arith
+sub-answer-call c = le-add-right _ _
 
 part-answer-call-start : tie.Need-part-answer-call-start Inv-loop μ-loop
-part-answer-call-start c = omega arith
+part-answer-call-start c = le-add-right _ _
 
 part-answer-call-end : tie.Need-part-answer-call-end Inv-loop μ-loop
-part-answer-call-end c = omega arith
+part-answer-call-end c =
+    let step = c .before .before .before .before .before in
+    let good = step .before .before .before .before .before .before .before .good in
+    readings-in (step .before .loop .inv .taken-in) (good .1 .0 .1) _ (c .before .readings-taken .ensures)
 
 mul-answer-call-2 : tie.Need-mul-answer-call-2 Inv-loop μ-loop
-mul-answer-call-2 c = omega arith
+mul-answer-call-2 c =
+    let step = c .before .before .before .before .before .before in
+    let good = step .before .before .before .before .before .before .before .good in
+    place-fits (step .before .loop .inv .given-in) (good .1 .1 .0 .1)
 
 sub-answer-call-2 : tie.Need-sub-answer-call-2 Inv-loop μ-loop
-sub-answer-call-2 c = omega arith
+sub-answer-call-2 c = le-add-right _ _
 
 part-answer-call-start-2 : tie.Need-part-answer-call-start-2 Inv-loop μ-loop
-part-answer-call-start-2 c = omega arith
+part-answer-call-start-2 c = le-add-right _ _
 
 part-answer-call-end-2 : tie.Need-part-answer-call-end-2 Inv-loop μ-loop
-part-answer-call-end-2 c = omega arith
+part-answer-call-end-2 c =
+    let step = c .before .before .before .before .before .before in
+    let good = step .before .before .before .before .before .before .before .good in
+    readings-in (step .before .loop .inv .given-in) (good .1 .1 .0 .1) _ (c .before .readings-taken2 .ensures)
 
 answer-call-requires : tie.Need-answer-call-requires Inv-loop μ-loop
-answer-call-requires c κs = (long (c .before .before .before .before .before .before .before), sym (c .before .before .before .before .before .is-call .ensures) ∙ not-false (c .before .before .before .before .before .is-call .result) (c .before .before .before .before .if1 .left))
+answer-call-requires c κs =
+    let read = c .before .before .before .before in
+    let step = read .before .before .before in (
+      record-long (step .before .loop .inv) (step .loop-test .taken),
+      sym (read .before .is-call .ensures) ∙ not-false (read .before .is-call .result) (read .if1 .left),
+    )
 
 row-of-requires : tie.Need-row-of-requires Inv-loop μ-loop
-row-of-requires c κs = search needs
+row-of-requires c κs = tt
 
 slice-aggregate-write-numbers : tie.Need-slice-aggregate-write-numbers Inv-loop μ-loop
 slice-aggregate-write-numbers c = rw (c .before .before .row-of .ensures)
 
 write-numbers-requires : tie.Need-write-numbers-requires Inv-loop μ-loop
-write-numbers-requires c κs = search needs
+write-numbers-requires c κs = tt
 
 sub-left : tie.Need-sub-left Inv-loop μ-loop
-sub-left c = omega arith
+sub-left c =
+    let read = c .before .before .before .before .before .before .before .before .before .before .before .before in
+    read .before .before .before .loop-test .taken
 
 add-row : tie.Need-add-row Inv-loop μ-loop
 add-row c =
-    let lp = c .before .before .before .before .before .before .before .before .before .before .before .before .before .before .before .before in
-    omega (arith, lp .loop .inv .rows, c .before .before .before .before .before .before .before .before .before .before .before .before .before .before .before .loop-test .taken, lp .before .before .before .before .before .before .good)
+    let step = c .before .before .before .before .before .before .before .before .before .before .before .before .before .before .before in
+    let good = step .before .before .before .before .before .before .before .good in
+    row-fits (step .before .loop .inv) (step .loop-test .taken) (good .0 .1)
 
 loop-less : tie.Need-loop-less Inv-loop μ-loop
-loop-less c = omega arith
+loop-less c =
+    let step = c .before .before .before .before .before .before .before .before .before .before .before .before .before .before .before in
+    less (step .before .loop .inv) (step .loop-test .taken)
 
 loop-again : tie.Need-loop-again Inv-loop μ-loop
 loop-again c =
-    let lp = c .before .before .before .before .before .before .before .before .before .before .before .before .before .before .before .before in
+    let answered = c .before .before .before .before .before .before .before in
+    let read = answered .before .before .before .before .before in
+    let step = read .before .before .before in
+    let lp = step .before in
     advance
     _ _ _ _ _ _ _ _ _ _ _ _ _ _ _ _ _
     (lp .loop .inv)
-    (c .before .before .before .before .before .before .before .before .before .before .before .before .before .before .before .loop-test .taken)
+    (step .loop-test .taken)
     (record-is (lp .before .before .before .before .before .before .args .calls .now) (lp .loop .call))
-    (sym (c .before .before .before .before .before .before .before .before .before .before .before .before .before .is-call .ensures) ∙ not-false (c .before .before .before .before .before .before .before .before .before .before .before .before .before .is-call .result) (c .before .before .before .before .before .before .before .before .before .before .before .before .if1 .left))
-    (c .before .before .before .before .before .before .before .before .before .before .before .readings-taken .ensures)
-    (c .before .before .before .before .before .before .before .before .before .before .readings-taken2 .ensures)
-    (c .before .before .before .before .before .before .before .answer-call .ensures)
+    (sym (read .before .is-call .ensures) ∙ not-false (read .before .is-call .result) (read .if1 .left))
+    (answered .before .before .before .before .readings-taken .ensures)
+    (answered .before .before .before .readings-taken2 .ensures)
+    (answered .answer-call .ensures)
     (c .before .before .before .before .before .row-of .ensures)
     (c .before .before .write-numbers .ensures)
     (c .before .before .write-numbers .kept .0)
 
 same-length-2 : tie.Need-same-length-2 Inv-loop μ-loop
-same-length-2 c = omega arith
+same-length-2 c = c .before .loop .inv .same
 
 returns-2 : tie.Need-returns-2 Inv-loop μ-loop
 returns-2 c = ended _ _ _ _ _ _ _ _ _ _ _ (c .before .loop .inv) (c .loop-test .left)

@@ -1,28 +1,28 @@
--- `ledger::terms_at` reads the places of the terms.
+-- `records::terms_at` reads the places of the terms.
 use borrow.Author.Needs.{needs}
-use Rattle.ledger.proofs.terms_at.Statement.{statement}
-use Rattle.ledger.proofs.terms_at.Tie as tie
+use Rattle.records.proofs.terms_at.Statement.{statement}
+use Rattle.records.proofs.terms_at.Tie as tie
 
 number-at-requires : tie.Need-number-at-requires
-number-at-requires c κs = search needs
+number-at-requires c κs = tt
 
 rider-at-requires : tie.Need-rider-at-requires
-rider-at-requires c κs = search needs
+rider-at-requires c κs = tt
 
 number-at-requires-2 : tie.Need-number-at-requires-2
-number-at-requires-2 c κs = search needs
+number-at-requires-2 c κs = tt
 
 class-at-requires : tie.Need-class-at-requires
-class-at-requires c κs = search needs
+class-at-requires c κs = tt
 
 number-at-requires-3 : tie.Need-number-at-requires-3
-number-at-requires-3 c κs = search needs
+number-at-requires-3 c κs = tt
 
 number-at-requires-4 : tie.Need-number-at-requires-4
-number-at-requires-4 c κs = search needs
+number-at-requires-4 c κs = tt
 
 number-at-requires-5 : tie.Need-number-at-requires-5
-number-at-requires-5 c κs = search needs
+number-at-requires-5 c κs = tt
 
 returns : tie.Need-returns
 returns c =

@@ -1,13 +1,13 @@
--- `ledger::four_at` reads four numbers; past the record's end each is 0.
+-- `records::four_at` reads four numbers; past the record's end each is 0.
 use borrow.Author.Needs.{needs}
 use Prim.Native.Nat.{_+_}
 use native.Mathlib.Omega.{arith}
 use lib.ListN.{List·getD-eq-default}
-use Rattle.ledger.proofs.four_at.Statement.{statement}
-use Rattle.ledger.proofs.four_at.Tie as tie
+use Rattle.records.proofs.four_at.Statement.{statement}
+use Rattle.records.proofs.four_at.Tie as tie
 
 no-energy-requires : tie.Need-no-energy-requires
-no-energy-requires c κs = search needs
+no-energy-requires c κs = tt
 
 returns : tie.Need-returns
 returns c =
@@ -23,28 +23,34 @@ returns c =
     )
 
 number-at-requires : tie.Need-number-at-requires
-number-at-requires c κs = search needs
+number-at-requires c κs = tt
 
 add-number-at : tie.Need-add-number-at
 add-number-at c = search needs
 
 number-at-requires-2 : tie.Need-number-at-requires-2
-number-at-requires-2 c κs = search needs
+number-at-requires-2 c κs = tt
 
 add-number-at-2 : tie.Need-add-number-at-2
 add-number-at-2 c = search needs
 
 number-at-requires-3 : tie.Need-number-at-requires-3
-number-at-requires-3 c κs = search needs
+number-at-requires-3 c κs = tt
 
 add-number-at-3 : tie.Need-add-number-at-3
 add-number-at-3 c = search needs
 
 number-at-requires-4 : tie.Need-number-at-requires-4
-number-at-requires-4 c κs = search needs
+number-at-requires-4 c κs = tt
 
 returns-2 : tie.Need-returns-2
-returns-2 c = rw (c .number-at4 .ensures, c .before .number-at3 .ensures, c .before .before .number-at2 .ensures, c .before .before .before .number-at .ensures)
+returns-2 c =
+    rw (
+      c .number-at4 .ensures,
+      c .before .number-at3 .ensures,
+      c .before .before .number-at2 .ensures,
+      c .before .before .before .number-at .ensures,
+    )
 
 pub four-at-spec : {M : Type 1} → statement M
 four-at-spec =

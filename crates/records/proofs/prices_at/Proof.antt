@@ -1,31 +1,31 @@
--- `ledger::prices_at` reads the places of the price list.
+-- `records::prices_at` reads the places of the price list.
 use borrow.Author.Needs.{needs}
-use Rattle.ledger.proofs.prices_at.Statement.{statement}
-use Rattle.ledger.proofs.prices_at.Tie as tie
+use Rattle.records.proofs.prices_at.Statement.{statement}
+use Rattle.records.proofs.prices_at.Tie as tie
 
 four-at-requires : tie.Need-four-at-requires
-four-at-requires c κs = search needs
+four-at-requires c κs = tt
 
 number-at-requires : tie.Need-number-at-requires
-number-at-requires c κs = search needs
+number-at-requires c κs = tt
 
 number-at-requires-2 : tie.Need-number-at-requires-2
-number-at-requires-2 c κs = search needs
+number-at-requires-2 c κs = tt
 
 number-at-requires-3 : tie.Need-number-at-requires-3
-number-at-requires-3 c κs = search needs
+number-at-requires-3 c κs = tt
 
 number-at-requires-4 : tie.Need-number-at-requires-4
-number-at-requires-4 c κs = search needs
+number-at-requires-4 c κs = tt
 
 number-at-requires-5 : tie.Need-number-at-requires-5
-number-at-requires-5 c κs = search needs
+number-at-requires-5 c κs = tt
 
 number-at-requires-6 : tie.Need-number-at-requires-6
-number-at-requires-6 c κs = search needs
+number-at-requires-6 c κs = tt
 
 number-at-requires-7 : tie.Need-number-at-requires-7
-number-at-requires-7 c κs = search needs
+number-at-requires-7 c κs = tt
 
 returns : tie.Need-returns
 returns c =
