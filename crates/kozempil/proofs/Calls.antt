@@ -8,9 +8,10 @@ use lib.ListN.{length, getD}
 use borrow.Author.Tests.{ltb-true, eqb-true}
 use Rattle.calendar.proofs.Booleans.{and-both}
 use Rattle.account.specs.declared.Account.{Account}
+use Rattle.records.specs.Records.{recordLength, isCall}
 use Rattle.ledger.specs.declared.Answered.{Answered}
 use Rattle.ledger.specs.Ledger.{answerOf, accountAfter}
-use Rattle.ledger.specs.Encoding.{isCall, callOf, answeredOf}
+use Rattle.ledger.specs.Encoding.{callOf, answeredOf}
 use Rattle.kozempil.specs.Interface.{isAccount, accountAt, isAnswered}
 
 -- An account has 23 numbers, and its next month is one of 32 bits.
@@ -35,9 +36,9 @@ none true b e = e
 none false b e = refl
 
 module _ (w call delivered received : List ℕ) (a : Account) (x : Answered) (from : a ≡ accountAt w) (e : x ≡ answeredOf a call delivered received) where
-  same : x .known ≡ (eqb (length call) 18 && isCall call)
+  same : x .known ≡ (eqb (length call) recordLength && isCall call)
   unfolding answeredOf
-  same = rw e (known-part (eqb (length call) 18 && isCall call) _ _ refl refl)
+  same = rw e (known-part (eqb (length call) recordLength && isCall call) _ _ refl refl)
 
   pub answered : isAccount w ≡ true → x .known ≡ true → isAnswered w call ≡ true
   unfolding isAnswered

@@ -8,7 +8,8 @@ use Rattle.registers.specs.DayView.{Part}
 use Rattle.account.specs.declared.Stage.{Stage}
 use Rattle.account.specs.declared.Stage.the-variants.{Fresh, Open, Closed}
 use Rattle.account.specs.declared.Account.{Account}
-use Rattle.ledger.specs.Encoding.{riderCode, classCode, yesCode, termsAt, pricesAt, fourAt, isCall, four}
+use Rattle.records.specs.Records.{recordLength, riderCode, classCode, yesCode, termsAt, pricesAt, fourAt, isCall}
+use Rattle.records.specs.Rows.{four}
 
 -- Stages as numbers.
 abbrev pub stageCode : Stage → ℕ
@@ -61,9 +62,9 @@ accountAt w =
       standing = getD w 22 0;
     }
 
--- A call on a given account is answered where the numbers are an account, and the record is a call of 18 numbers.
+-- A call on a given account is answered where the numbers are an account, and the record is a call of a record's length.
 unfoldable pub isAnswered : List ℕ → List ℕ → Bool
-isAnswered w call = isAccount w && (eqb (length call) 18 && isCall call)
+isAnswered w call = isAccount w && (eqb (length call) recordLength && isCall call)
 
 -- A day view as start and length: the places before it in the register named, and the readings in it.
 unfoldable pub partNumbers : Part → List ℕ

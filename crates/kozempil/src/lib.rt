@@ -6,8 +6,10 @@ ghost use lib.ListN.{length, getD};
 ghost use lib.Seq.{sets};
 ghost use Rattle.registers.specs.DayView.{viewOf};
 ghost use Rattle.account.specs.Account.{freshAccount};
+ghost use Rattle.records.specs.Records.{riderCode, classCode, yesCode};
+ghost use Rattle.records.specs.Rows.{rowOf};
 ghost use Rattle.ledger.specs.Ledger.{answerOf, accountAfter, answersOf, lastOf};
-ghost use Rattle.ledger.specs.Encoding.{riderCode, classCode, yesCode, callOf, callsIn, rowOf, rowsOf};
+ghost use Rattle.ledger.specs.Encoding.{callOf, callsIn, rowsOf};
 ghost use Rattle.kozempil.specs.Interface.{stageCode, accountRow, isAccount, stageAt, accountAt, isAnswered, partNumbers};
 use account::Account;
 use account::Stage;
@@ -16,9 +18,6 @@ use tariff::Rider;
 
 // The numbers of an account.
 const ACCOUNT: usize = 23;
-
-// The first number of more than 32 bits.
-const LIMIT_32: u64 = 0x1_0000_0000;
 
 fn stage_code(stage: Stage) -> u64
     ensures { λ r. ⌜ r ≡ stageCode stage ⌝ }
@@ -107,7 +106,7 @@ pub extern "C" fn kozempil_run(
 {
     let last = ledger::run(calls, delivered, received, answers);
     let row = account_row(last);
-    ledger::write_numbers(account, 0, &row[..]);
+    records::write_numbers(account, 0, &row[..]);
 }
 
 fn stage_at(code: u64) -> Stage
@@ -141,7 +140,7 @@ fn is_account(words: &[u64]) -> bool
     if 1 < words[5] {
         return false;
     }
-    words[17] < LIMIT_32
+    words[17] < records::LIMIT_32
 }
 
 // The account of its numbers.
@@ -151,10 +150,10 @@ fn account_at(words: &[u64]) -> Account
     ensures { λ r. ⌜ r ≡ accountAt (now (words .entry)) ⌝ }
 {
     let stage = stage_at(words[0]);
-    let terms = ledger::terms_at(words);
-    let prices = ledger::prices_at(words);
+    let terms = records::terms_at(words);
+    let prices = records::prices_at(words);
     let next = words[17] as u32;
-    let carried = ledger::four_at(words, 18);
+    let carried = records::four_at(words, 18);
     let standing = words[22];
     Account {
         stage,
@@ -187,9 +186,9 @@ pub extern "C" fn kozempil_call(
             let last = answered.account;
             let reply = answered.answer;
             let account_numbers = account_row(last);
-            let answer_numbers = ledger::row_of(reply);
-            ledger::write_numbers(answer, 0, &answer_numbers[..]);
-            ledger::write_numbers(after, 0, &account_numbers[..]);
+            let answer_numbers = records::row_of(reply);
+            records::write_numbers(answer, 0, &answer_numbers[..]);
+            records::write_numbers(after, 0, &account_numbers[..]);
             return 1;
         }
     }
@@ -210,11 +209,11 @@ pub extern "C" fn kozempil_day_view(
 {
     if registers::empty_view(delivered, received, month, day, number) {
         let numbers = [0u64, 0u64];
-        ledger::write_numbers(part, 0, &numbers[..]);
+        records::write_numbers(part, 0, &numbers[..]);
         return;
     }
     let start = calendar::readings_through(month, day - 1) as u64;
     let count = calendar::day_length(month, day) as u64;
     let numbers = [start, count];
-    ledger::write_numbers(part, 0, &numbers[..]);
+    records::write_numbers(part, 0, &numbers[..]);
 }

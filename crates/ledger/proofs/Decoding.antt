@@ -9,7 +9,8 @@ use borrow.Author.Tests.{leb-true, leb-false}
 use lib.Dec.{leb}
 use lib.ListN.{length, take, drop, drop-of-length-le, length-drop}
 use lib.Seq.{take-all, drop-drop, length-take-le}
-use Rattle.ledger.specs.Encoding.{deliveredCount, receivedCount, isCall, callOf, decode}
+use Rattle.records.specs.Records.{recordLength, deliveredCount, receivedCount, isCall}
+use Rattle.ledger.specs.Encoding.{callOf, decode}
 
 -- What is past the end adds nothing to a part, and leaves nothing behind it.
 take-min : (n : ℕ) (l : List ℕ) → take (min n (length l)) l ≡ take n l
@@ -38,17 +39,17 @@ module _ (calls delivered received : List ℕ) (call taken given : ℕ) where
   unfolding decode
   decode-none = refl
 
-  pub decode-stop : (n : ℕ) → 0 < n → isCall (take 18 (drop call calls)) ≡ false
+  pub decode-stop : (n : ℕ) → 0 < n → isCall (take recordLength (drop call calls)) ≡ false
       → decode n (drop call calls) (drop taken delivered) (drop given received) ≡ []
   unfolding decode
   decode-stop zero h e = absurd (omega arith)
   decode-stop (suc n) h e = rw e
 
-  pub decode-next : (n d r : ℕ) (w : List ℕ) → 0 < n → w ≡ take 18 (drop call calls) → isCall w ≡ true
+  pub decode-next : (n d r : ℕ) (w : List ℕ) → 0 < n → w ≡ take recordLength (drop call calls) → isCall w ≡ true
       → d ≡ min (deliveredCount w) (length delivered - taken) → r ≡ min (receivedCount w) (length received - given)
       → decode n (drop call calls) (drop taken delivered) (drop given received)
       ≡ callOf w (take d (drop taken delivered)) (take r (drop given received))
-      ∷ decode (n - 1) (drop (call + 18) calls) (drop (taken + d) delivered) (drop (given + r) received)
+      ∷ decode (n - 1) (drop (call + recordLength) calls) (drop (taken + d) delivered) (drop (given + r) received)
   unfolding decode
   decode-next zero d r w h i e f g = absurd (omega arith)
   decode-next (suc n) d r w h i e f g =
@@ -61,12 +62,12 @@ module _ (calls delivered received : List ℕ) (call taken given : ℕ) where
         part-is received given (receivedCount w) r g,
         rest-is delivered taken (deliveredCount w) d f,
         rest-is received given (receivedCount w) r g,
-        ← (drop-drop 18 call calls),
+        ← (drop-drop recordLength call calls),
       )
 
 -- A record of the list has eighteen numbers.
-pub record-is : (calls : List ℕ) (call : ℕ) → take (call + 18 - call) (drop call calls) ≡ take 18 (drop call calls)
-record-is calls call = let e : call + 18 - call ≡ 18 = omega arith in rw e
+pub record-is : (calls : List ℕ) (call : ℕ) → take (call + recordLength - call) (drop call calls) ≡ take recordLength (drop call calls)
+record-is calls call = let e : call + recordLength - call ≡ recordLength = omega arith in rw e
 
-pub record-length : (calls : List ℕ) (call : ℕ) → call + 18 ≤ length calls → length (take (call + 18 - call) (drop call calls)) ≡ 18
-record-length calls call h = rw (record-is calls call) (length-take-le 18 (drop call calls) (rw (length-drop call calls) (omega arith)))
+pub record-length : (calls : List ℕ) (call : ℕ) → call + recordLength ≤ length calls → length (take (call + recordLength - call) (drop call calls)) ≡ recordLength
+record-length calls call h = rw (record-is calls call) (length-take-le recordLength (drop call calls) (rw (length-drop call calls) (omega arith)))

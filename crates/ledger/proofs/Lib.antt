@@ -7,4 +7,3 @@ mod Readings
 mod Records
 mod Roundtrip
 mod Steps
-mod Writing

@@ -2,24 +2,30 @@
 use mathlib.Core.Path.{_≡_, refl, sym, _∙_}
 use mathlib.Core.Bool.{true, false, cond}
 use mathlib.Core.List.{List, [], _∷_, _++_}
-use Prim.Native.Nat.{ℕ, _+_, _-_, _*_, _/_, _≤_, _<_, min}
+use Prim.Native.Nat.{ℕ, suc, _+_, _-_, _*_, _/_, _≤_, _<_, min}
+use native.Mathlib.Nat.{add-zero, add-suc, suc-add}
 use native.Mathlib.Omega.{arith}
 use lib.Dec.{eqb}
-use lib.ListN.{length, getD, take, drop}
+use lib.ListN.{length, getD, take, drop, set}
 use lib.Seq.{sets}
 use Rattle.account.specs.declared.Account.{Account}
 use Rattle.account.specs.Account.{freshAccount}
+use Rattle.records.specs.Records.{recordLength, kindOf, deliveredCount, receivedCount, isCall}
+use Rattle.records.specs.Rows.{rowLength, rowOf}
 use Rattle.ledger.specs.declared.Step.{Step}
-use Rattle.ledger.specs.declared.Answer.{Answer}
 use Rattle.ledger.specs.Ledger.{Call, answerOf, accountAfter, answersOf, lastOf}
-use Rattle.ledger.specs.Encoding.{kindOf, deliveredCount, receivedCount, isCall, callOf, rowOf, rowsOf, decode, callsIn, recordOf, deliveredOf, receivedOf, joined, AllFit}
+use Rattle.ledger.specs.Encoding.{callOf, rowsOf, decode, callsIn, recordOf, deliveredOf, receivedOf, joined, AllFit}
 use Rattle.ledger.specs.Running.{stepOf}
 use Rattle.ledger.specs.DemandThree.{Holds, DemandThree}
 use Rattle.ledger.proofs.Balances.{balanced}
 use Rattle.ledger.proofs.Decoding.{decode-none, decode-stop, decode-next}
 use Rattle.ledger.proofs.Reachable.{reachable}
 use Rattle.ledger.proofs.Roundtrip.{read-back}
-use Rattle.ledger.proofs.Writing.{sets-append}
+
+-- Two lists are written one after the other.
+sets-append : (buffer : List ℕ) (i : ℕ) (xs ys : List ℕ) → sets buffer i (xs ++ ys) ≡ sets (sets buffer i xs) (i + length xs) ys
+sets-append buffer i [] ys = rw add-zero
+sets-append buffer i (x ∷ xs) ys = sets-append (set buffer i x) (suc i) xs ys ∙ rw (add-suc, suc-add)
 
 -- The whole list, and what its answers leave in the buffer; the calls that are left, the account, the next row's place and the buffer now.
 pub record Progress (all : List Call) (before : List ℕ) (rest : List Call) (a : Account) (row : ℕ) (buffer : List ℕ) : Type 0 where
@@ -32,7 +38,7 @@ module _ (all : List Call) (before : List ℕ) where
 
   pub next : (c : Call) (rest : List Call) (a : Account) (row : ℕ) (buffer after : List ℕ) (s : Step) (xs : List ℕ)
       → Progress all before (c ∷ rest) a row buffer → s ≡ stepOf a c → xs ≡ rowOf (s .answer) → after ≡ sets buffer row xs
-      → Progress all before rest (s .account) (row + 60) after
+      → Progress all before rest (s .account) (row + rowLength) after
   unfolding stepOf lastOf answersOf rowsOf
   next c rest a row buffer after s xs p e f g =
       record {
@@ -47,10 +53,10 @@ module _ (all : List Call) (before : List ℕ) where
 
 -- The loop's state: where the next record, readings and row start, and what is left.
 pub record Running (calls delivered received before answers : List ℕ) (a : Account) (left call taken given row : ℕ) : Type 0 where
-  pub records : call + 18 * left ≤ length calls
+  pub records : call + recordLength * left ≤ length calls
   pub taken-in : taken ≤ length delivered
   pub given-in : given ≤ length received
-  pub rows : row + 60 * left ≤ 60 * (length calls / 18)
+  pub rows : row + rowLength * left ≤ rowLength * (length calls / recordLength)
   pub same : length answers ≡ length before
   pub progress :
       Progress (callsIn calls delivered received) before (decode left (drop call calls) (drop taken delivered) (drop given received)) a row answers
@@ -75,7 +81,7 @@ module _ (calls delivered received before answers : List ℕ) (a : Account) (lef
       (rw (none, decode-none calls delivered received call taken given) at (g .progress)))
 
   pub stopped : Running calls delivered received before answers a left call taken given row → 0 < left → (w : List ℕ)
-      → w ≡ take 18 (drop call calls) → isCall w ≡ false → DemandThree calls delivered received before answers a
+      → w ≡ take recordLength (drop call calls) → isCall w ≡ false → DemandThree calls delivered received before answers a
   stopped g h w i e =
       whole calls delivered received before answers a
       (finish (callsIn calls delivered received) before a row answers
@@ -84,12 +90,12 @@ module _ (calls delivered received before answers : List ℕ) (a : Account) (lef
   -- A record that is a call is answered and written, and the next one follows it.
   pub advance : (d r : ℕ) (w : List ℕ) (s : Step) (xs after : List ℕ)
       → Running calls delivered received before answers a left call taken given row → 0 < left
-      → w ≡ take 18 (drop call calls) → isCall w ≡ true
+      → w ≡ take recordLength (drop call calls) → isCall w ≡ true
       → d ≡ min (cond (eqb (kindOf w) 2) (getD w 2 0) 0) (length delivered - taken)
       → r ≡ min (cond (eqb (kindOf w) 2) (getD w 3 0) 0) (length received - given)
       → s ≡ stepOf a (callOf w (take (taken + d - taken) (drop taken delivered)) (take (given + r - given) (drop given received)))
       → xs ≡ rowOf (s .answer) → after ≡ sets answers row xs → length after ≡ length answers
-      → Running calls delivered received before after (s .account) (left - 1) (call + 18) (taken + d) (given + r) (row + 60)
+      → Running calls delivered received before after (s .account) (left - 1) (call + recordLength) (taken + d) (given + r) (row + rowLength)
   unfolding deliveredCount receivedCount
   advance d r w s xs after g h i k e f j o q l =
       let dd : taken + d - taken ≡ d = omega arith in

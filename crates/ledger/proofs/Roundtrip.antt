@@ -1,44 +1,16 @@
 -- A list of calls, lent by its records and registers, is read back as that list: each call by its own case.
 use mathlib.Core.Path.{_≡_, refl, sym, _∙_, ap}
-use mathlib.Core.Bool.{Bool, true, false, cond, _&&_}
+use mathlib.Core.Bool.{true}
 use mathlib.Core.List.{List, [], _∷_, _++_}
 use Prim.Native.Nat.{ℕ, zero, suc, _+_, _*_, _/_, _^_, _<_}
 use native.Mathlib.Omega.{arith}
 use borrow.Author.Tests.{lt-ltb}
-use lib.Dec.{eqb, leb, ltb}
 use lib.ListN.{length, take, drop, length-append}
 use lib.Seq.{take-append-seam, drop-append-seam}
-use Rattle.tariff.specs.declared.Rider.{Rider}
-use Rattle.tariff.specs.declared.Rider.the-variants.{Banked, Bridge}
-use Rattle.tariff.specs.declared.Class.{Class}
-use Rattle.tariff.specs.declared.Class.the-variants.{Home, Business}
+use Rattle.records.specs.Records.{recordLength, deliveredCount, receivedCount, openingCodes, billingCodes, isCall}
+use Rattle.records.proofs.Laws.{rider-known, rider-back, class-known, class-back, yes-known, yes-back}
 use Rattle.ledger.specs.Ledger.{Call, opening, repricing, billing, closing}
-use Rattle.ledger.specs.Encoding.{riderCode, classCode, yesCode, deliveredCount, receivedCount, openingCodes, billingCodes, isCall, callOf}
-use Rattle.ledger.specs.Encoding.{decode, callsIn, recordOf, deliveredOf, receivedOf, joined, Fits32, AllFit}
-
-rider-known : (r : Rider) → leb (riderCode r) 1 ≡ true
-rider-known Banked = refl
-rider-known Bridge = refl
-
-rider-back : (r : Rider) → cond (eqb (riderCode r) 0) Banked Bridge ≡ r
-rider-back Banked = refl
-rider-back Bridge = refl
-
-class-known : (k : Class) → leb (classCode k) 1 ≡ true
-class-known Home = refl
-class-known Business = refl
-
-class-back : (k : Class) → cond (eqb (classCode k) 0) Home Business ≡ k
-class-back Home = refl
-class-back Business = refl
-
-yes-known : (b : Bool) → leb (yesCode b) 1 ≡ true
-yes-known true = refl
-yes-known false = refl
-
-yes-back : (b : Bool) → eqb (yesCode b) 1 ≡ b
-yes-back true = refl
-yes-back false = refl
+use Rattle.ledger.specs.Encoding.{callOf, decode, callsIn, recordOf, deliveredOf, receivedOf, joined, Fits32, AllFit}
 
 -- The record of a call is a call, and with the call's registers that call.
 known : (c : Call) → Fits32 c → isCall (recordOf c) ≡ true
@@ -70,25 +42,25 @@ received-count (repricing l) = refl
 received-count (billing m delivered received x) = refl
 received-count closing = refl
 
-take-record : (c : Call) (rest : List ℕ) → take 18 (recordOf c ++ rest) ≡ recordOf c
+take-record : (c : Call) (rest : List ℕ) → take recordLength (recordOf c ++ rest) ≡ recordOf c
 take-record (opening t l m) rest = refl
 take-record (repricing l) rest = refl
 take-record (billing m delivered received x) rest = refl
 take-record closing rest = refl
 
-drop-record : (c : Call) (rest : List ℕ) → drop 18 (recordOf c ++ rest) ≡ rest
+drop-record : (c : Call) (rest : List ℕ) → drop recordLength (recordOf c ++ rest) ≡ rest
 drop-record (opening t l m) rest = refl
 drop-record (repricing l) rest = refl
 drop-record (billing m delivered received x) rest = refl
 drop-record closing rest = refl
 
-record-size : (c : Call) → length (recordOf c) ≡ 18
+record-size : (c : Call) → length (recordOf c) ≡ recordLength
 record-size (opening t l m) = refl
 record-size (repricing l) = refl
 record-size (billing m delivered received x) = refl
 record-size closing = refl
 
-size : (cs : List Call) → length (joined recordOf cs) ≡ 18 * length cs
+size : (cs : List Call) → length (joined recordOf cs) ≡ recordLength * length cs
 unfolding joined
 size [] = refl
 size (c ∷ cs) = rw (length-append (recordOf c) (joined recordOf cs), record-size c) (omega (arith, size cs))
@@ -114,5 +86,5 @@ decoded (c ∷ cs) h =
 pub read-back : (cs : List Call) → AllFit cs → callsIn (joined recordOf cs) (joined deliveredOf cs) (joined receivedOf cs) ≡ cs
 unfolding callsIn
 read-back cs h =
-    let e : length (joined recordOf cs) / 18 ≡ length cs = omega (arith, size cs) in
+    let e : length (joined recordOf cs) / recordLength ≡ length cs = omega (arith, size cs) in
     rw e (decoded cs h)

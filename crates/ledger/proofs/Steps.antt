@@ -19,7 +19,7 @@ use Rattle.account.specs.declared.ClosingAmounts.{ClosingAmounts}
 use Rattle.account.specs.Refusals.{isOpen, highestNext, contentsRefused, openingNumber, repricingNumber, billingNumber, closingNumber}
 use Rattle.account.specs.Account.{freshAccount, billOf, openingReply, repricingReply, billingReply, closingReply}
 use Rattle.account.proofs.Accepted.{Contents, opening-accepted, repricing-accepted, billing-accepted}
-use Rattle.ledger.specs.declared.Answer.{Answer}
+use Rattle.records.specs.declared.Answer.{Answer}
 use Rattle.ledger.specs.Ledger.{Call, opening, repricing, billing, closing, noAmounts, answerOf, accountAfter}
 use Rattle.ledger.specs.Balances.{Period, Critical, OnPeak, OffPeak, Discount, amountOf, deliveredBy, exportedBy, ChargedLast}
 use Rattle.ledger.proofs.Bills.{by-period-at, none-at, bill-balanced, bill-held}

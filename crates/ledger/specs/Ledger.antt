@@ -7,7 +7,7 @@ use Rattle.billing.specs.Billing.{none, noBill}
 use Rattle.account.specs.declared.Account.{Account}
 use Rattle.account.specs.declared.ClosingAmounts.{ClosingAmounts}
 use Rattle.account.specs.Account.{openingReply, repricingReply, billingReply, closingReply}
-use Rattle.ledger.specs.declared.Answer.{Answer}
+use Rattle.records.specs.declared.Answer.{Answer}
 
 -- A call: an opening with terms, price list and first month; a repricing; a billing with month, delivered, received and critical days;
 -- a closing.

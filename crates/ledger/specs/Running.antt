@@ -2,7 +2,7 @@
 use Prim.Native.Nat.{ℕ}
 use Rattle.billing.specs.Billing.{noBill}
 use Rattle.account.specs.declared.Account.{Account}
-use Rattle.ledger.specs.declared.Answer.{Answer}
+use Rattle.records.specs.declared.Answer.{Answer}
 use Rattle.ledger.specs.declared.Step.{Step}
 use Rattle.ledger.specs.Ledger.{Call, noAmounts, answerOf, accountAfter}
 

@@ -2,7 +2,7 @@
 use borrow.Author.Needs.{needs}
 use mathlib.Core.Path.{sym, ap, _∙_}
 use lib.Seq.{sets}
-use Rattle.ledger.specs.Encoding.{rowOf}
+use Rattle.records.specs.Rows.{rowOf}
 use Rattle.kozempil.proofs.Calls.{account-numbers, answered, not-answered, answer-is, account-is, no-account}
 use Rattle.kozempil.proofs.kozempil_call.Statement.{statement}
 use Rattle.kozempil.proofs.kozempil_call.Tie as tie

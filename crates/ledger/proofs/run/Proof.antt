@@ -6,6 +6,7 @@ use mathlib.Core.Path.{_≡_, refl, sym, _∙_}
 use Prim.Native.Nat.{_+_, _-_, _≤_}
 use borrow.Author.Tests.{not-true, not-false}
 use lib.ListN.{length, take, drop}
+use Rattle.records.specs.Records.{recordLength}
 use Rattle.ledger.specs.Encoding.{callsIn}
 use Rattle.ledger.proofs.Decoding.{record-is, record-length}
 use Rattle.ledger.proofs.run.Statement.{statement}
@@ -23,9 +24,9 @@ abbrev μ-loop : tie.MeasureT-loop
 long : (c : tie.In-loop Inv-loop μ-loop) →
     length
     (take
-    (c .before .loop .call + 18 - c .before .loop .call)
+    (c .before .loop .call + recordLength - c .before .loop .call)
     (drop (c .before .loop .call) (c .before .before .before .before .before .before .before .args .calls .now)))
-    ≡ 18
+    ≡ recordLength
 long c =
     record-length (c .before .before .before .before .before .before .before .args .calls .now) (c .before .loop .call)
     (omega (arith, c .before .loop .inv .records, c .loop-test .taken))
@@ -61,7 +62,7 @@ part-record-end : tie.Need-part-record-end Inv-loop μ-loop
 part-record-end c = omega arith
 
 is-call-requires : tie.Need-is-call-requires Inv-loop μ-loop
-is-call-requires c κs = long (c .before)
+is-call-requires c κs = search needs
 
 same-length : tie.Need-same-length Inv-loop μ-loop
 same-length c = omega arith
@@ -76,7 +77,7 @@ sub-readings-taken : tie.Need-sub-readings-taken Inv-loop μ-loop
 sub-readings-taken c = omega arith
 
 readings-taken-requires : tie.Need-readings-taken-requires Inv-loop μ-loop
-readings-taken-requires c κs = (long (c .before .before .before), omega arith)
+readings-taken-requires c κs = search needs
 
 add-taken-end : tie.Need-add-taken-end Inv-loop μ-loop
 add-taken-end c = omega arith
@@ -85,7 +86,7 @@ sub-readings-taken-2 : tie.Need-sub-readings-taken-2 Inv-loop μ-loop
 sub-readings-taken-2 c = omega arith
 
 readings-taken-requires-2 : tie.Need-readings-taken-requires-2 Inv-loop μ-loop
-readings-taken-requires-2 c κs = (long (c .before .before .before .before), omega arith)
+readings-taken-requires-2 c κs = search needs
 
 add-given-end : tie.Need-add-given-end Inv-loop μ-loop
 add-given-end c = omega arith

@@ -1,7 +1,7 @@
--- `ledger::terms_at` reads the places of the terms.
+-- `records::terms_at` reads the places of the terms.
 use borrow.Author.Needs.{needs}
-use Rattle.ledger.proofs.terms_at.Statement.{statement}
-use Rattle.ledger.proofs.terms_at.Tie as tie
+use Rattle.records.proofs.terms_at.Statement.{statement}
+use Rattle.records.proofs.terms_at.Tie as tie
 
 number-at-requires : tie.Need-number-at-requires
 number-at-requires c κs = search needs

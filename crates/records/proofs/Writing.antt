@@ -1,8 +1,8 @@
--- Rows written one number after the other, and one after the other.
-use mathlib.Core.Path.{_≡_, refl, _∙_}
-use mathlib.Core.List.{List, [], _∷_, _++_}
+-- Numbers written one after the other.
+use mathlib.Core.Path.{_≡_, refl}
+use mathlib.Core.List.{List, [], _∷_}
 use Prim.Native.Nat.{ℕ, suc, _+_, _≤_, _<_}
-use native.Mathlib.Nat.{add-zero, add-suc, suc-add}
+use native.Mathlib.Nat.{add-suc}
 use native.Mathlib.Numerals.{add-one}
 use native.Mathlib.Omega.{arith}
 use lib.ListN.{length, getD, drop, set, drop-of-length-le}
@@ -12,11 +12,6 @@ use lib.Seq.{sets, drop-cons, set-out}
 pub put-next : (buffer row : List ℕ) (start k : ℕ) → k < length row
     → sets (set buffer (start + k) (getD row k 0)) (start + (k + 1)) (drop (k + 1) row) ≡ sets buffer (start + k) (drop k row)
 put-next buffer row start k h = rw (drop-cons row k 0 h, add-one k, add-suc start k)
-
--- Two lists are written one after the other.
-pub sets-append : (buffer : List ℕ) (i : ℕ) (xs ys : List ℕ) → sets buffer i (xs ++ ys) ≡ sets (sets buffer i xs) (i + length xs) ys
-sets-append buffer i [] ys = rw add-zero
-sets-append buffer i (x ∷ xs) ys = sets-append (set buffer i x) (suc i) xs ys ∙ rw (add-suc, suc-add)
 
 -- Nothing is left of a row that is written.
 pub all-put : (buffer row : List ℕ) (i k : ℕ) → length row ≤ k → sets buffer i (drop k row) ≡ buffer

@@ -1,7 +1,7 @@
--- `ledger::class_at` makes the definition's test.
+-- `records::class_at` makes the definition's test.
 use borrow.Author.Tests.{eq-eqb, ne-eqb}
-use Rattle.ledger.proofs.class_at.Statement.{statement}
-use Rattle.ledger.proofs.class_at.Tie as tie
+use Rattle.records.proofs.class_at.Statement.{statement}
+use Rattle.records.proofs.class_at.Tie as tie
 
 returns : tie.Need-returns
 returns c = simp (eq-eqb _ _ (c .if1 .taken))

@@ -1,10 +1,10 @@
--- `ledger::four_at` reads four numbers; past the record's end each is 0.
+-- `records::four_at` reads four numbers; past the record's end each is 0.
 use borrow.Author.Needs.{needs}
 use Prim.Native.Nat.{_+_}
 use native.Mathlib.Omega.{arith}
 use lib.ListN.{List·getD-eq-default}
-use Rattle.ledger.proofs.four_at.Statement.{statement}
-use Rattle.ledger.proofs.four_at.Tie as tie
+use Rattle.records.proofs.four_at.Statement.{statement}
+use Rattle.records.proofs.four_at.Tie as tie
 
 no-energy-requires : tie.Need-no-energy-requires
 no-energy-requires c κs = search needs
@@ -44,7 +44,13 @@ number-at-requires-4 : tie.Need-number-at-requires-4
 number-at-requires-4 c κs = search needs
 
 returns-2 : tie.Need-returns-2
-returns-2 c = rw (c .number-at4 .ensures, c .before .number-at3 .ensures, c .before .before .number-at2 .ensures, c .before .before .before .number-at .ensures)
+returns-2 c =
+    rw (
+      c .number-at4 .ensures,
+      c .before .number-at3 .ensures,
+      c .before .before .number-at2 .ensures,
+      c .before .before .before .number-at .ensures,
+    )
 
 pub four-at-spec : {M : Type 1} → statement M
 four-at-spec =

@@ -1,4 +1,4 @@
--- `ledger::write_numbers` writes the numbers one after the other: `Writing` has the step. Past the buffer's end there is nothing to write.
+-- `records::write_numbers` writes the numbers one after the other: `Writing` has the step. Past the buffer's end there is nothing to write.
 use mathlib.Core.Path.{_≡_, refl, _∙_, sym}
 use Prim.Native.Nat.{_≤_, _-_, _+_}
 use native.Mathlib.Nat.{add-zero}
@@ -6,13 +6,14 @@ use native.Mathlib.Omega.{arith}
 use borrow.Author.Needs.{needs}
 use lib.ListN.{length, drop}
 use lib.Seq.{sets}
-use Rattle.ledger.proofs.Writing.{put-next, all-put, sets-out}
-use Rattle.ledger.proofs.write_numbers.Statement.{statement}
-use Rattle.ledger.proofs.write_numbers.Tie as tie
+use Rattle.records.proofs.Writing.{put-next, all-put, sets-out}
+use Rattle.records.proofs.write_numbers.Statement.{statement}
+use Rattle.records.proofs.write_numbers.Tie as tie
 
 abbrev Inv-loop : tie.InvT-loop
 Inv-loop buffer₀ start numbers place₀ buffer place =
-    (place ≤ length numbers) × (length buffer ≡ length buffer₀) × (sets buffer (start + place) (drop place numbers) ≡ sets buffer₀ start numbers)
+    (place ≤ length numbers) × (length buffer ≡ length buffer₀)
+    × (sets buffer (start + place) (drop place numbers) ≡ sets buffer₀ start numbers)
 
 abbrev μ-loop : tie.MeasureT-loop
 μ-loop buffer₀ start numbers place₀ buffer place = length numbers - place
@@ -59,8 +60,8 @@ same-length c = c .before .loop .inv .1
 returns-2 : tie.Need-returns-2 Inv-loop μ-loop
 returns-2 c =
     let st = c .before .before .before .before .before in
-    sym (all-put (c .before .loop .buffer) (st .args .numbers .now) (st .args .start + c .before .loop .place) (c .before .loop .place) (omega arith))
-    ∙ c .before .loop .inv .2
+    let lp = c .before .loop in
+    sym (all-put (lp .buffer) (st .args .numbers .now) (st .args .start + lp .place) (lp .place) (omega arith)) ∙ lp .inv .2
 
 pub write-numbers-spec : {M : Type 1} → statement M
 write-numbers-spec =

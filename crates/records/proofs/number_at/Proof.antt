@@ -1,9 +1,9 @@
--- `ledger::number_at` reads within the record, and past its end there is 0.
+-- `records::number_at` reads within the record, and past its end there is 0.
 use borrow.Author.Needs.{needs}
 use mathlib.Core.Path.{sym}
 use lib.ListN.{List·getD-eq-default}
-use Rattle.ledger.proofs.number_at.Statement.{statement}
-use Rattle.ledger.proofs.number_at.Tie as tie
+use Rattle.records.proofs.number_at.Statement.{statement}
+use Rattle.records.proofs.number_at.Tie as tie
 
 mul-result : tie.Need-mul-result
 mul-result c = search needs

@@ -1,7 +1,7 @@
--- `ledger::rider_at` makes the definition's test.
+-- `records::rider_at` makes the definition's test.
 use borrow.Author.Tests.{eq-eqb, ne-eqb}
-use Rattle.ledger.proofs.rider_at.Statement.{statement}
-use Rattle.ledger.proofs.rider_at.Tie as tie
+use Rattle.records.proofs.rider_at.Statement.{statement}
+use Rattle.records.proofs.rider_at.Tie as tie
 
 returns : tie.Need-returns
 returns c = simp (eq-eqb _ _ (c .if1 .taken))

@@ -1,7 +1,7 @@
--- `ledger::prices_at` reads the places of the price list.
+-- `records::prices_at` reads the places of the price list.
 use borrow.Author.Needs.{needs}
-use Rattle.ledger.proofs.prices_at.Statement.{statement}
-use Rattle.ledger.proofs.prices_at.Tie as tie
+use Rattle.records.proofs.prices_at.Statement.{statement}
+use Rattle.records.proofs.prices_at.Tie as tie
 
 four-at-requires : tie.Need-four-at-requires
 four-at-requires c κs = search needs

@@ -1,9 +1,9 @@
--- `ledger::put` writes nothing past the end, as `set` does.
+-- `records::put` writes nothing past the end, as `set` does.
 use borrow.Author.Needs.{needs}
 use mathlib.Core.Path.{sym}
 use lib.Seq.{set-out}
-use Rattle.ledger.proofs.put.Statement.{statement}
-use Rattle.ledger.proofs.put.Tie as tie
+use Rattle.records.proofs.put.Statement.{statement}
+use Rattle.records.proofs.put.Tie as tie
 
 mul-buffer : tie.Need-mul-buffer
 mul-buffer c = search needs

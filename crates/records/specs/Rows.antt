@@ -1,0 +1,36 @@
+-- How an answer is written.
+use mathlib.Core.List.{List, [], _∷_}
+use Prim.Native.Nat.{ℕ}
+use Rattle.hours.specs.declared.ByPeriod.{ByPeriod}
+use Rattle.charges.specs.declared.Charges.{Charges}
+use Rattle.records.specs.declared.Answer.{Answer}
+
+-- How many numbers a row has.
+abbrev pub rowLength : ℕ
+rowLength = 60
+
+-- The row of an answer: its number; of the bill, four for each amount by period, then the money lines; of a closing, what it forfeits
+-- and refunds.
+abbrev pub four : ByPeriod → List ℕ → List ℕ
+four a rest = a .critical ∷ a .onpeak ∷ a .offpeak ∷ a .discount ∷ rest
+
+abbrev pub lines : Charges → List ℕ → List ℕ
+lines c rest =
+    c .energy ∷ c .demand ∷ c .standby ∷ c .bypass ∷ c .shortfall ∷ c .gross ∷ c .granted ∷ c .used ∷ c .due ∷ c .standing ∷ rest
+
+abbrev pub rowOf : Answer → List ℕ
+rowOf x =
+    x .number
+    ∷ four (x .bill .forfeited)
+    (four (x .bill .delivered)
+    (four (x .bill .exported)
+    (four (x .bill .own)
+    (four (x .bill .credit)
+    (four (x .bill .need)
+    (four (x .bill .out)
+    (four (x .bill .into)
+    (four (x .bill .billed)
+    (four (x .bill .left)
+    (four (x .bill .paid)
+    (lines (x .bill .charges)
+    (four (x .amounts .forfeited) (x .amounts .refunded ∷ [])))))))))))))
