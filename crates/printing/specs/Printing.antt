@@ -3,8 +3,9 @@ use mathlib.Core.List.{List, _++_}
 use Prim.Native.Nat.{ℕ}
 use Rattle.calendar.specs.Calendar.{yearOf, monthOfYear}
 use Rattle.hours.specs.declared.ByPeriod.{ByPeriod}
+use Rattle.text.specs.Text.{bytesOf}
 use Rattle.billing.specs.declared.Bill.{Bill}
-use Rattle.printing.specs.Text.{bytesOf, decimal, twoDigits}
+use Rattle.printing.specs.Text.{decimal, twoDigits}
 
 -- "the month as entered": a year, a dash and 01 to 12.
 abbrev pub monthText : ℕ → List ℕ

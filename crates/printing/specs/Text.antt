@@ -1,15 +1,8 @@
--- Texts, as the numbers of their bytes.
+-- Numbers as texts.
 use mathlib.Core.Bool.{cond}
 use mathlib.Core.List.{List, [], _∷_, _++_}
 use Prim.Native.Nat.{ℕ, zero, suc, _+_, _/_, _%_}
-use Prim.Native.Char.{code}
-use Prim.Native.String.{String}
 use lib.Dec.{ltb}
-
--- The bytes of a quoted text; all of ours are ASCII.
-abbrev pub bytesOf : String → List ℕ
-bytesOf Prim.Native.String.[] = []
-bytesOf (Prim.Native.String._∷_ c s) = code c ∷ bytesOf s
 
 -- The byte of a decimal digit.
 abbrev pub digitByte : ℕ → ℕ

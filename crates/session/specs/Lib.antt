@@ -1,0 +1,3 @@
+pub mod Feeding
+pub mod Sessions
+pub mod Statement
