@@ -6,7 +6,7 @@ use Prim.Native.Nat.{ℕ, zero, suc, _+_, _-_, _≤_, _<_}
 use native.Mathlib.Numerals.{add-one}
 use native.Mathlib.Omega.{arith}
 use borrow.Author.Tests.{eq-eqb, ne-eqb, eqb-true}
-use lib.Dec.{eqb}
+use lib.Dec.{eqb, eqb·suc-suc}
 use lib.ListN.{length, getD, take, drop, length-map, length-drop}
 use lib.Seq.{take-all}
 use Rattle.calendar.proofs.Booleans.{and-both}
@@ -19,11 +19,11 @@ use Rattle.grammar.proofs.Texts.{rest-is}
 pub place-within : (b : ℕ) (l : List ℕ) → placeOf b l ≤ length l
 unfolding placeOf
 place-within b [] = omega arith
-place-within b (x ∷ l) = by (eqb x b) refl
+place-within b (x ∷ l) = by (eqb x b) (place-within b l)
   where
-    by : (t : Bool) → eqb x b ≡ t → cond t zero (suc (placeOf b l)) ≤ suc (length l)
-    by true e = omega arith
-    by false e = omega (arith, place-within b l)
+    by : (t : Bool) → placeOf b l ≤ length l → cond t zero (suc (placeOf b l)) ≤ suc (length l)
+    by true h = omega arith
+    by false h = omega arith
 
 pub on-first-count : (b : ℕ) (ps : List (List ℕ)) → length (onFirst b ps) ≡ length ps
 on-first-count b [] = refl
@@ -33,33 +33,33 @@ on-first-count b (p ∷ ps) = refl
 pub parts-some : (l : List ℕ) → 1 ≤ length (partsOf l)
 unfolding partsOf
 parts-some [] = omega arith
-parts-some (b ∷ l) = by (eqb b 44)
+parts-some (b ∷ l) = by (eqb b 44) (parts-some l)
   where
-    by : (t : Bool) → 1 ≤ length (cond t ([] ∷ partsOf l) (onFirst b (partsOf l)))
-    by true = omega arith
-    by false = omega (arith, on-first-count b (partsOf l), parts-some l)
+    by : (t : Bool) → 1 ≤ length (partsOf l) → 1 ≤ length (cond t ([] ∷ partsOf l) (onFirst b (partsOf l)))
+    by true h = omega arith
+    by false h = omega (arith, on-first-count b (partsOf l))
 
 -- Where there is no comma there is one part; else the first ends at the first comma.
 pub parts-last : (l : List ℕ) → placeOf 44 l ≡ length l → partsOf l ≡ l ∷ []
 unfolding partsOf placeOf
 parts-last [] e = refl
-parts-last (b ∷ l) = by (eqb b 44)
+parts-last (b ∷ l) e = by (eqb b 44) (parts-last l) e
   where
-    by : (t : Bool) → cond t zero (suc (placeOf 44 l)) ≡ suc (length l)
+    by : (t : Bool) → (placeOf 44 l ≡ length l → partsOf l ≡ l ∷ []) → cond t zero (suc (placeOf 44 l)) ≡ suc (length l)
         → cond t ([] ∷ partsOf l) (onFirst b (partsOf l)) ≡ (b ∷ l) ∷ []
-    by true e = absurd (omega arith)
-    by false e = rw (parts-last l (omega arith))
+    by true next e = absurd (omega arith)
+    by false next e = rw (next (omega arith))
 
 pub parts-more : (l : List ℕ) → placeOf 44 l < length l → partsOf l ≡ take (placeOf 44 l) l ∷ partsOf (drop (suc (placeOf 44 l)) l)
 unfolding partsOf placeOf
 parts-more [] h = absurd (omega arith)
-parts-more (b ∷ l) = by (eqb b 44)
+parts-more (b ∷ l) h = by (eqb b 44) (parts-more l) h
   where
-    by : (t : Bool) → cond t zero (suc (placeOf 44 l)) < suc (length l)
+    by : (t : Bool) → (placeOf 44 l < length l → partsOf l ≡ take (placeOf 44 l) l ∷ partsOf (drop (suc (placeOf 44 l)) l)) → cond t zero (suc (placeOf 44 l)) < suc (length l)
         → cond t ([] ∷ partsOf l) (onFirst b (partsOf l))
         ≡ take (cond t zero (suc (placeOf 44 l))) (b ∷ l) ∷ partsOf (drop (suc (cond t zero (suc (placeOf 44 l)))) (b ∷ l))
-    by true h = refl
-    by false h = rw (parts-more l (omega arith))
+    by true next h = refl
+    by false next h = rw (next (omega arith))
 
 -- How many numbers there are.
 pub numbers-count : (n : ℕ) (l : List ℕ) → length (numbersIn n l) ≤ n
@@ -68,21 +68,24 @@ numbers-count n l = by (eqb (length (partsOf l)) n && allNumbers (partsOf l)) re
   where
     by : (t : Bool) → (eqb (length (partsOf l)) n && allNumbers (partsOf l)) ≡ t → length (cond t (map valueOf (partsOf l)) []) ≤ n
     by true e =
-        omega
-        (arith, length-map (partsOf l) valueOf, eqb-true _ _ (and-both (eqb (length (partsOf l)) n) (allNumbers (partsOf l)) e .0))
+        let same = eqb-true (length (partsOf l)) n (and-both (eqb (length (partsOf l)) n) (allNumbers (partsOf l)) e .0) in
+        omega (arith, length-map (partsOf l) valueOf)
     by false e = omega arith
+
+pub counted : (n : ℕ) (l : List ℕ) (a : Numbers) → a ≡ numbersAs (numbersIn n l) → a .count ≤ n
+counted n l a e = rw e (numbers-count n l)
 
 pub numbers-none : (l : List ℕ) → numbersIn 0 l ≡ []
 unfolding numbersIn
 numbers-none l = rw (ne-eqb (length (partsOf l)) 0 (λ e. omega (arith, parts-some l)))
 
-pub numbers-last : (l : List ℕ) → placeOf 44 l ≡ length l → numbersIn 1 l ≡ numberIn l
+pub numbers-last : (n k : ℕ) (l : List ℕ) → k ≡ placeOf 44 l → k ≡ length l → n ≡ 1 → numberIn (take k l) ≡ numbersIn n l
 unfolding numbersIn allNumbers numberIn
-numbers-last l e = rw (parts-last l e, and-true (isNumber l))
+numbers-last n k l p e f = rw (f, take-all k l (omega arith), parts-last l (sym p ∙ e), and-true (isNumber l))
 
-pub numbers-few : (n : ℕ) (l : List ℕ) → placeOf 44 l ≡ length l → (n ≡ 1 → ⊥) → numbersIn n l ≡ []
+pub numbers-few : (n k : ℕ) (l : List ℕ) → k ≡ placeOf 44 l → k ≡ length l → (n ≡ 1 → ⊥) → numbersIn n l ≡ []
 unfolding numbersIn
-numbers-few n l e h = rw (parts-last l e, ne-eqb 1 n (λ f. h (sym f)))
+numbers-few n k l p e h = rw (parts-last l (sym p ∙ e), ne-eqb 1 n (λ f. h (sym f)))
 
 -- A number before others.
 led : (same first rest : Bool) (v : ℕ) (vs : List ℕ) → 1 ≤ length vs
@@ -101,5 +104,11 @@ pub numbers-more : (n k : ℕ) (l : List ℕ) (a b : Numbers) → (n ≡ 0 → �
     → b ≡ numbersAs (numbersIn (n - 1) (take (length l - (k + 1)) (drop (k + 1) l)))
     → ledBy a b ≡ numbersAs (numbersIn n l)
 unfolding numbersIn numberIn allNumbers
-numbers-more zero k l a b z e h p q = absurd (z refl)
-numbers-more (suc m) k l a b z e h p q = ?
+numbers-more zero k l a b z e h x y = absurd (z refl)
+numbers-more (suc m) k l a b z e h x y =
+    let less : suc m - 1 ≡ m = omega arith in
+    let p = take k l in
+    let ps = partsOf (drop (suc k) l) in
+    let some : 1 ≤ length (map valueOf ps) = omega (arith, length-map ps valueOf, parts-some (drop (suc k) l)) in
+    rw (x, y, less, rest-is (k + 1) l, parts-more l (omega arith), ← e, add-one k, eqb·suc-suc (length ps) m)
+    (sym (led (eqb (length ps) m) (isNumber p) (allNumbers ps) (valueOf p) (map valueOf ps) some))

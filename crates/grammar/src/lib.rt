@@ -1,7 +1,7 @@
 // The lines that `statement` reads: what each gives in numbers, or none where it is unreadable.
 ghost use mathlib.Core.Path.{_≡_};
 ghost use mathlib.Core.List.{[], _∷_};
-ghost use Prim.Native.Nat.{_<_, _^_};
+ghost use Prim.Native.Nat.{_+_, _<_, _^_};
 ghost use Rattle.grammar.specs.Grammar.{beginsWith, isText, numberIn, monthIn, choiceIn, numbersIn, keyed};
 ghost use Rattle.grammar.specs.Grammar.{openingLine, billLine, criticalLine, runLine};
 ghost use Rattle.grammar.specs.Reading.{numbersAs, monthFrom, ledBy};
@@ -164,7 +164,7 @@ fn choice_in(text: &[u8], first: &[u8], second: &[u8]) -> Numbers
 
 // A number and those after it; none where there is none before or after.
 fn led_by(first: Numbers, rest: Numbers) -> Numbers
-    requires { ⌜ rest .count < 2 ^ 32 ⌝ }
+    requires { ⌜ rest .count + 1 < 2 ^ 64 ⌝ }
     ensures { λ r. ⌜ r ≡ ledBy first rest ⌝ }
 {
     if first.count == 0 {

@@ -1,3 +1,8 @@
+-- `grammar::month_in` tests one part of a month after the other: `Months` has what each test says.
+use native.Mathlib.Omega.{arith}
+use lib.ListN.{length-take}
+use Rattle.grammar.proofs.Digits.{read-none, read-some, read-value, read-fits}
+use Rattle.grammar.proofs.Months.{month-length, month-dash, month-year, month-of-year, month-is}
 use borrow.Author.Needs.{needs}
 use Rattle.grammar.proofs.month_in.Statement.{statement}
 use Rattle.grammar.proofs.month_in.Tie as tie
@@ -7,73 +12,67 @@ use Rattle.grammar.proofs.month_of.Reads as month-of-reads
 use Rattle.grammar.proofs.no_number.Reads as no-number-reads
 use Rattle.grammar.proofs.number_in.Reads as number-in-reads
 
--- src/lib.rt:119:9
 no-number-requires : tie.Need-no-number-requires
 no-number-requires c κs = search needs
 
--- src/lib.rt:119:9
 returns : tie.Need-returns
-returns c = ?
+returns c = rw (month-length (c .before .before .before .args .text .now) (c .before .if1 .taken)) (c .no-number .ensures)
 
--- src/lib.rt:121:8
 shared-slice-read-if2 : tie.Need-shared-slice-read-if2
 shared-slice-read-if2 c = search needs
 
--- src/lib.rt:122:9
 no-number-requires-2 : tie.Need-no-number-requires-2
 no-number-requires-2 c κs = search needs
 
--- src/lib.rt:122:9
 returns-2 : tie.Need-returns-2
-returns-2 c = ?
+returns-2 c = rw (month-dash (c .before .before .before .before .before .args .text .now) (c .before .before .before .if1 .left) (c .before .if2 .taken)) (c .no-number2 .ensures)
 
--- src/lib.rt:124:26
 slice-aggregate-number-in : tie.Need-slice-aggregate-number-in
-slice-aggregate-number-in c = ?
+slice-aggregate-number-in c = simp length-take (omega arith)
 
--- src/lib.rt:124:9
 number-in-requires : tie.Need-number-in-requires
 number-in-requires c κs = search needs
 
--- src/lib.rt:126:9
 no-number-requires-3 : tie.Need-no-number-requires-3
 no-number-requires-3 c κs = search needs
 
--- src/lib.rt:126:9
 returns-3 : tie.Need-returns-3
-returns-3 c = ?
+returns-3 c =
+    let not-year = read-none _ _ (c .before .before .before .number-in .ensures) (c .before .if3 .taken) in
+    rw (month-year (c .before .before .before .before .before .before .before .before .before .args .text .now) (c .before .before .before .before .before .before .before .if1 .left) (c .before .before .before .before .before .if2 .left) not-year) (c .no-number3 .ensures)
 
--- src/lib.rt:128:29
 sub-number-in : tie.Need-sub-number-in
 sub-number-in c = search needs
 
--- src/lib.rt:128:29
 part-number-in-start : tie.Need-part-number-in-start
 part-number-in-start c = search needs
 
--- src/lib.rt:128:29
 part-number-in-end : tie.Need-part-number-in-end
 part-number-in-end c = search needs
 
--- src/lib.rt:128:9
 number-in-requires-2 : tie.Need-number-in-requires-2
 number-in-requires-2 c κs = search needs
 
--- src/lib.rt:130:9
 no-number-requires-4 : tie.Need-no-number-requires-4
 no-number-requires-4 c κs = search needs
 
--- src/lib.rt:130:9
 returns-4 : tie.Need-returns-4
-returns-4 c = ?
+returns-4 c =
+    let year = read-some _ _ (c .before .before .before .before .before .before .before .number-in .ensures) (c .before .before .before .before .before .if3 .left) in
+    let not-month = read-none _ _ (c .before .before .before .number-in2 .ensures) (c .before .if4 .taken) in
+    rw (month-of-year (c .before .before .before .before .before .before .before .before .before .before .before .before .before .args .text .now) (c .before .before .before .before .before .before .before .before .before .before .before .if1 .left) (c .before .before .before .before .before .before .before .before .before .if2 .left) year not-month) (c .no-number4 .ensures)
 
--- src/lib.rt:132:5
 month-of-requires : tie.Need-month-of-requires
-month-of-requires c κs = ?
+month-of-requires c κs = read-fits _ _ (c .before .before .before .before .before .before .number-in .ensures) (c .before .before .before .before .if3 .left)
 
--- src/lib.rt:115:1
 returns-5 : tie.Need-returns-5
-returns-5 c = ?
+returns-5 c =
+    let y = c .before .before .before .before .before .before .before .number-in .ensures in
+    let m = c .before .before .before .number-in2 .ensures in
+    let some = c .before .before .before .before .before .if3 .left in
+    let more = c .before .if4 .left in
+    rw (← (month-is (c .before .before .before .before .before .before .before .before .before .before .before .before .before .args .text .now) _ _ (c .before .before .before .before .before .before .before .before .before .before .before .if1 .left) (c .before .before .before .before .before .before .before .before .before .if2 .left)
+    (read-some _ _ y some) (read-some _ _ m more) (read-value _ _ y some) (read-value _ _ m more))) (c .month-of .ensures)
 
 pub month-in-spec : {M : Type 1} → statement M
 month-in-spec =
