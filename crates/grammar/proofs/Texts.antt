@@ -7,10 +7,10 @@ use native.Mathlib.Numerals.{add-one}
 use native.Mathlib.Omega.{arith}
 use borrow.Author.Tests.{eq-eqb, ne-eqb}
 use lib.Dec.{eqb}
-use lib.ListN.{length, getD, take, drop, drop-of-length-le, length-drop}
+use lib.ListN.{length, getD, take, drop, drop-of-length-le, length-drop, List·getD-eq-default}
 use lib.Seq.{drop-cons, take-all}
 use Rattle.calendar.proofs.Booleans.{and-both}
-use Rattle.grammar.specs.Grammar.{beginsWith, keyed}
+use Rattle.grammar.specs.Grammar.{beginsWith, keyed, openingLines, openingLine}
 
 module _ (i : ℕ) (text line : List ℕ) where
   -- The bytes at a place agree, so the rest decides; or they don't.
@@ -56,3 +56,12 @@ module _ (key : List ℕ) (read : List ℕ → List ℕ) (l : List ℕ) where
   pub keyed-no : beginsWith key l ≡ false → keyed key read l ≡ []
   unfolding keyed
   keyed-no e = rw e
+
+-- There are fourteen lines.
+pub opening-past : (k : ℕ) (l : List ℕ) → 14 ≤ k → openingLine k l ≡ []
+unfolding openingLine
+opening-past k l h = rw (List·getD-eq-default openingLines (λ l. []) h)
+
+-- A line that isn't line n + 1 comes after it.
+pub next : {k : ℕ} (n : ℕ) → n ≤ k → (k ≡ n → ⊥) → n + 1 ≤ k
+next n h e = omega arith

@@ -258,6 +258,16 @@ pub fn opening_line(k: u32, line: &[u8]) -> Numbers
         4 => keyed_number(line, b"limit="),
         5 => keyed_choice(line, b"assisted=", b"no", b"yes"),
         6 => keyed_numbers(line, b"prices=", 4),
+        _ => later_opening_line(k, line),
+    }
+}
+
+// One of the last seven of them.
+fn later_opening_line(k: u32, line: &[u8]) -> Numbers
+    requires { ⌜ 6 < k ⌝ }
+    ensures { λ r. ⌜ r ≡ numbersAs (openingLine k (now (line .entry))) ⌝ }
+{
+    match k {
         7 => keyed_number(line, b"demand="),
         8 => keyed_number(line, b"standby="),
         9 => keyed_number(line, b"bypass="),
