@@ -1,7 +1,7 @@
 // The lines that `statement` reads: what each gives in numbers, or none where it is unreadable.
 ghost use mathlib.Core.Path.{_≡_};
 ghost use mathlib.Core.List.{[], _∷_};
-ghost use Prim.Native.Nat.{_<_, _^_};
+ghost use Prim.Native.Nat.{_+_, _<_, _^_};
 ghost use Rattle.grammar.specs.Grammar.{beginsWith, isText, numberIn, monthIn, choiceIn, numbersIn, keyed};
 ghost use Rattle.grammar.specs.Grammar.{openingLine, billLine, criticalLine, runLine};
 ghost use Rattle.grammar.specs.Reading.{numbersAs, monthFrom, ledBy};
@@ -164,7 +164,7 @@ fn choice_in(text: &[u8], first: &[u8], second: &[u8]) -> Numbers
 
 // A number and those after it; none where there is none before or after.
 fn led_by(first: Numbers, rest: Numbers) -> Numbers
-    requires { ⌜ rest .count < 2 ^ 32 ⌝ }
+    requires { ⌜ rest .count + 1 < 2 ^ 64 ⌝ }
     ensures { λ r. ⌜ r ≡ ledBy first rest ⌝ }
 {
     if first.count == 0 {
@@ -258,6 +258,16 @@ pub fn opening_line(k: u32, line: &[u8]) -> Numbers
         4 => keyed_number(line, b"limit="),
         5 => keyed_choice(line, b"assisted=", b"no", b"yes"),
         6 => keyed_numbers(line, b"prices=", 4),
+        _ => later_opening_line(k, line),
+    }
+}
+
+// One of the last seven of them.
+fn later_opening_line(k: u32, line: &[u8]) -> Numbers
+    requires { ⌜ 6 < k ⌝ }
+    ensures { λ r. ⌜ r ≡ numbersAs (openingLine k (now (line .entry))) ⌝ }
+{
+    match k {
         7 => keyed_number(line, b"demand="),
         8 => keyed_number(line, b"standby="),
         9 => keyed_number(line, b"bypass="),

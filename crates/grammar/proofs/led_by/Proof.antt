@@ -1,3 +1,6 @@
+-- `grammar::led_by` asks for the numbers in the order of the definition.
+use borrow.Author.Tests.{eq-eqb, ne-eqb}
+use Rattle.grammar.specs.Reading.{ledBy}
 use borrow.Author.Needs.{needs}
 use Rattle.grammar.proofs.led_by.Statement.{statement}
 use Rattle.grammar.proofs.led_by.Tie as tie
@@ -5,29 +8,26 @@ use Rattle.grammar.proofs.led_by.Reads as reads
 use Rattle.grammar.proofs.led_by.Lts as lts
 use Rattle.grammar.proofs.no_number.Reads as no-number-reads
 
--- src/lib.rt:171:9
 no-number-requires : tie.Need-no-number-requires
 no-number-requires c κs = search needs
 
--- src/lib.rt:171:9
 returns : tie.Need-returns
-returns c = ?
+unfolding ledBy
+returns c = simp (eq-eqb _ _ (c .before .if1 .taken)) (c .no-number .ensures)
 
--- src/lib.rt:174:9
 no-number-requires-2 : tie.Need-no-number-requires-2
 no-number-requires-2 c κs = search needs
 
--- src/lib.rt:174:9
 returns-2 : tie.Need-returns-2
-returns-2 c = ?
+unfolding ledBy
+returns-2 c = simp (ne-eqb _ _ (c .before .before .before .if1 .left), eq-eqb _ _ (c .before .if2 .taken)) (c .no-number2 .ensures)
 
--- src/lib.rt:177:16
 add-t4 : tie.Need-add-t4
 add-t4 c = search needs
 
--- src/lib.rt:166:1
 returns-3 : tie.Need-returns-3
-returns-3 c = ?
+unfolding ledBy
+returns-3 c = simp (ne-eqb _ _ (c .before .before .before .if1 .left), ne-eqb _ _ (c .before .if2 .left))
 
 pub led-by-spec : {M : Type 1} → statement M
 led-by-spec =

@@ -1,3 +1,6 @@
+-- `grammar::month_of` asks for year and month in the order of the definition.
+use borrow.Author.Tests.{le-leb, lt-leb}
+use Rattle.grammar.specs.Reading.{monthFrom}
 use borrow.Author.Needs.{needs}
 use Rattle.grammar.proofs.month_of.Statement.{statement}
 use Rattle.grammar.proofs.month_of.Tie as tie
@@ -6,45 +9,39 @@ use Rattle.grammar.proofs.month_of.Lts as lts
 use Rattle.grammar.proofs.no_number.Reads as no-number-reads
 use Rattle.grammar.proofs.one_number.Reads as one-number-reads
 
--- src/lib.rt:141:9
 no-number-requires : tie.Need-no-number-requires
 no-number-requires c κs = search needs
 
--- src/lib.rt:141:9
 returns : tie.Need-returns
-returns c = ?
+unfolding monthFrom
+returns c = simp (lt-leb _ _ (c .before .if1 .taken)) (c .no-number .ensures)
 
--- src/lib.rt:144:9
 no-number-requires-2 : tie.Need-no-number-requires-2
 no-number-requires-2 c κs = search needs
 
--- src/lib.rt:144:9
 returns-2 : tie.Need-returns-2
-returns-2 c = ?
+unfolding monthFrom
+returns-2 c = simp (le-leb _ _ (c .before .before .if1 .left), lt-leb _ _ (c .before .if2 .taken)) (c .no-number2 .ensures)
 
--- src/lib.rt:147:9
 no-number-requires-3 : tie.Need-no-number-requires-3
 no-number-requires-3 c κs = search needs
 
--- src/lib.rt:147:9
 returns-3 : tie.Need-returns-3
-returns-3 c = ?
+unfolding monthFrom
+returns-3 c = simp (le-leb _ _ (c .before .before .before .if1 .left), le-leb _ _ (c .before .before .if2 .left), lt-leb _ _ (c .before .if3 .taken)) (c .no-number3 .ensures)
 
--- src/lib.rt:149:16
 mul-one-number : tie.Need-mul-one-number
 mul-one-number c = search needs
 
--- src/lib.rt:149:16
 add-one-number : tie.Need-add-one-number
 add-one-number c = search needs
 
--- src/lib.rt:149:5
 one-number-requires : tie.Need-one-number-requires
 one-number-requires c κs = search needs
 
--- src/lib.rt:136:1
 returns-4 : tie.Need-returns-4
-returns-4 c = ?
+unfolding monthFrom
+returns-4 c = simp (le-leb _ _ (c .before .before .before .if1 .left), le-leb _ _ (c .before .before .if2 .left), le-leb _ _ (c .before .if3 .left)) (c .one-number .ensures)
 
 pub month-of-spec : {M : Type 1} → statement M
 month-of-spec =

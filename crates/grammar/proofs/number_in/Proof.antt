@@ -1,3 +1,11 @@
+-- `grammar::number_in` reads one digit after the other: `Digits` has the step.
+use mathlib.Core.Path.{_≡_, refl, sym, _∙_}
+use Prim.Native.Nat.{_≤_, _<_, _-_, _+_, _*_, _^_}
+use native.Mathlib.Omega.{arith}
+use lib.ListN.{length, getD, drop}
+use Rattle.grammar.specs.Grammar.{allDigits, valueAfter, valueOf, numberIn}
+use Rattle.grammar.proofs.Digits.{digits-next, digits-low, digits-high, digits-end, value-next, value-end, value-grows}
+use Rattle.grammar.proofs.Digits.{number-empty, number-long, number-no-digits, number-large, number-is}
 use Rattle.grammar.proofs.number_in.Statement.{statement}
 use Rattle.grammar.proofs.number_in.Tie as tie
 use Rattle.grammar.proofs.number_in.Reads as reads
@@ -7,90 +15,98 @@ use Rattle.grammar.proofs.one_number.Reads as one-number-reads
 use Rattle.grammar.proofs.wide.Reads as wide-reads
 
 abbrev Inv-loop : tie.InvT-loop
-Inv-loop text value₀ place₀ value place = ?
+Inv-loop text value₀ place₀ value place =
+    (place ≤ length text) × (value < 2 ^ 32)
+    × (allDigits text ≡ allDigits (drop place text)) × (valueOf text ≡ valueAfter value (drop place text))
 
 abbrev μ-loop : tie.MeasureT-loop
-μ-loop text value₀ place₀ value place = ?
+μ-loop text value₀ place₀ value place = length text - place
 
--- src/lib.rt:90:9
 no-number-requires : tie.Need-no-number-requires Inv-loop μ-loop
-no-number-requires c κs = ?
+no-number-requires c κs = tt
 
--- src/lib.rt:90:9
 returns : tie.Need-returns Inv-loop μ-loop
-returns c = ?
+returns c =
+    let text = c .before .before .before .args .text .now in
+    rw (number-empty text (c .before .if1 .taken)) (c .no-number .ensures)
 
--- src/lib.rt:93:9
 no-number-requires-2 : tie.Need-no-number-requires-2 Inv-loop μ-loop
-no-number-requires-2 c κs = ?
+no-number-requires-2 c κs = tt
 
--- src/lib.rt:93:9
 returns-2 : tie.Need-returns-2 Inv-loop μ-loop
-returns-2 c = ?
+returns-2 c =
+    let text = c .before .before .before .before .args .text .now in
+    rw (number-long text (c .before .if2 .taken)) (c .no-number2 .ensures)
 
--- src/lib.rt:97:5
 loop-holds : tie.Need-loop-holds Inv-loop μ-loop
-loop-holds c = ?
+unfolding valueOf
+loop-holds c = (omega arith, omega arith, refl, refl)
 
--- src/lib.rt:98:20
 shared-slice-read-byte : tie.Need-shared-slice-read-byte Inv-loop μ-loop
-shared-slice-read-byte c = ?
+shared-slice-read-byte c = omega arith
 
--- src/lib.rt:100:13
 no-number-requires-3 : tie.Need-no-number-requires-3 Inv-loop μ-loop
-no-number-requires-3 c κs = ?
+no-number-requires-3 c κs = tt
 
--- src/lib.rt:100:13
 returns-3 : tie.Need-returns-3 Inv-loop μ-loop
-returns-3 c = ?
+returns-3 c =
+    let text = c .before .before .before .before .before .before .before .before .args .text .now in
+    let lp = c .before .before .before .before .loop in
+    rw (number-no-digits text (lp .inv .2 ∙ digits-low (lp .place) text (omega arith) (c .before .if3 .taken))) (c .no-number3 .ensures)
 
--- src/lib.rt:103:13
 no-number-requires-4 : tie.Need-no-number-requires-4 Inv-loop μ-loop
-no-number-requires-4 c κs = ?
+no-number-requires-4 c κs = tt
 
--- src/lib.rt:103:13
 returns-4 : tie.Need-returns-4 Inv-loop μ-loop
-returns-4 c = ?
+returns-4 c =
+    let text = c .before .before .before .before .before .before .before .before .before .args .text .now in
+    let lp = c .before .before .before .before .before .loop in
+    rw (number-no-digits text (lp .inv .2 ∙ digits-high (lp .place) text (omega arith) (c .before .if4 .taken))) (c .no-number4 .ensures)
 
--- src/lib.rt:105:17
 mul-value : tie.Need-mul-value Inv-loop μ-loop
-mul-value c = ?
+mul-value c = omega arith
 
--- src/lib.rt:105:30
 wide-requires : tie.Need-wide-requires Inv-loop μ-loop
-wide-requires c κs = ?
+wide-requires c κs = tt
 
--- src/lib.rt:105:17
 add-value : tie.Need-add-value Inv-loop μ-loop
-add-value c = ?
+add-value c = omega arith
 
--- src/lib.rt:107:13
 no-number-requires-5 : tie.Need-no-number-requires-5 Inv-loop μ-loop
-no-number-requires-5 c κs = ?
+no-number-requires-5 c κs = tt
 
--- src/lib.rt:107:13
 returns-5 : tie.Need-returns-5 Inv-loop μ-loop
-returns-5 c = ?
+returns-5 c =
+    let text = c .before .before .before .before .before .before .before .before .before .before .before .args .text .now in
+    let lp = c .before .before .before .before .before .before .before .loop in
+    let value = lp .value * 10 + (getD text (lp .place) 0 - 48) in
+    let large : 2 ^ 32 ≤ valueOf text = omega (arith, lp .inv .3, value-next (lp .place) text (lp .value) (omega arith), value-grows value (drop (lp .place + 1) text)) in
+    rw (number-large text large) (c .no-number5 .ensures)
 
--- src/lib.rt:109:9
 add-place : tie.Need-add-place Inv-loop μ-loop
-add-place c = ?
+add-place c = omega arith
 
--- src/lib.rt:97:5
 loop-less : tie.Need-loop-less Inv-loop μ-loop
-loop-less c = ?
+loop-less c = omega arith
 
--- src/lib.rt:97:5
 loop-again : tie.Need-loop-again Inv-loop μ-loop
-loop-again c = ?
+loop-again c =
+    let text = c .before .before .before .before .before .before .before .before .before .before .args .text .now in
+    let lp = c .before .before .before .before .before .before .loop in
+    let digits = digits-next (lp .place) text (omega arith) (omega arith) (omega arith) in
+    let value = value-next (lp .place) text (lp .value) (omega arith) in
+    (omega arith, omega arith, lp .inv .2 ∙ digits, lp .inv .3 ∙ (rw (c .before .wide .ensures) value))
 
--- src/lib.rt:111:5
 one-number-requires : tie.Need-one-number-requires Inv-loop μ-loop
-one-number-requires c κs = ?
+one-number-requires c κs = tt
 
--- src/lib.rt:86:1
 returns-6 : tie.Need-returns-6 Inv-loop μ-loop
-returns-6 c = ?
+returns-6 c =
+    let text = c .before .before .before .before .before .before .args .text .now in
+    let lp = c .before .before .loop in
+    let digits = lp .inv .2 ∙ digits-end (lp .place) text (omega arith) in
+    let value = lp .inv .3 ∙ value-end (lp .place) text (lp .value) (omega arith) in
+    rw (number-is text (omega arith) (omega arith) digits (omega arith), value) (c .one-number .ensures)
 
 pub number-in-spec : {M : Type 1} → statement M
 number-in-spec =
