@@ -8,9 +8,6 @@ use lib.Seq.{sets}
 use Rattle.printing.proofs.Writing.{put-next, all-written}
 use Rattle.printing.proofs.put_bytes.Statement.{statement}
 use Rattle.printing.proofs.put_bytes.Tie as tie
-use Rattle.printing.proofs.put_bytes.Reads as reads
-use Rattle.printing.proofs.put_bytes.Lts as lts
-use Rattle.printing.proofs.put_byte.Reads as put-byte-reads
 
 abbrev Inv-loop : tie.InvT-loop
 Inv-loop out₀ at bytes place₀ out place =
@@ -67,7 +64,7 @@ returns : tie.Need-returns Inv-loop μ-loop
 returns c =
     let st = c .before .before .before .before in
     all-written (c .before .loop .out) (st .args .out .now) (st .args .bytes .now) (st .args .at) (c .before .loop .place) (omega arith) (omega arith)
-        (c .before .loop .inv .2)
+    (c .before .loop .inv .2)
 
 pub put-bytes-spec : {M : Type 1} → statement M
 put-bytes-spec =

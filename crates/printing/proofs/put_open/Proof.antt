@@ -1,47 +1,41 @@
+-- `printing::put_open` writes a word, a number and the line's end.
 use borrow.Author.Needs.{needs}
+use Rattle.printing.specs.Printing.{openText}
+use Rattle.printing.proofs.Writing.{then, put-none, put-text, room-fits, past-number, ends, ends-number}
 use Rattle.printing.proofs.put_open.Statement.{statement}
 use Rattle.printing.proofs.put_open.Tie as tie
-use Rattle.printing.proofs.put_open.Reads as reads
-use Rattle.printing.proofs.put_open.Lts as lts
-use Rattle.printing.proofs.has_room.Reads as has-room-reads
-use Rattle.printing.proofs.put_bytes.Reads as put-bytes-reads
-use Rattle.printing.proofs.put_number.Reads as put-number-reads
 
--- src/lib.rt:146:9
 has-room-requires : tie.Need-has-room-requires
 has-room-requires c κs = search needs
 
--- src/lib.rt:147:9
 same-length : tie.Need-same-length
 same-length c = search needs
 
--- src/lib.rt:147:9
 returns : tie.Need-returns
-returns c = ?
+returns c = put-none (c .before .has-room .ensures) (c .if1 .taken)
 
--- src/lib.rt:149:35
 slice-aggregate-put-number : tie.Need-slice-aggregate-put-number
 slice-aggregate-put-number c = search needs
 
--- src/lib.rt:149:9
 put-number-requires : tie.Need-put-number-requires
-put-number-requires c κs = ?
+put-number-requires c κs =
+    let h = room-fits _ _ (c .before .before .before .has-room .ensures) (c .before .before .if1 .left) (c .before .before .before .before .before .before .good .0 .0) in ends-number 5 20 999 h
 
--- src/lib.rt:150:25
 slice-aggregate-put-bytes : tie.Need-slice-aggregate-put-bytes
 slice-aggregate-put-bytes c = search needs
 
--- src/lib.rt:150:5
 put-bytes-requires : tie.Need-put-bytes-requires
-put-bytes-requires c κs = ?
+put-bytes-requires c κs =
+    let h = room-fits _ _ (c .before .before .before .before .before .before .before .before .has-room .ensures) (c .before .before .before .before .before .before .before .if1 .left) (c .before .before .before .before .before .before .before .before .before .before .before .good .0 .0) in
+    ends 1 998 (past-number 5 20 999 h (c .before .before .before .before .put-number .ensures .1))
 
--- src/lib.rt:143:1
 same-length-2 : tie.Need-same-length-2
 same-length-2 c = search needs
 
--- src/lib.rt:143:1
 returns-2 : tie.Need-returns-2
-returns-2 c = ?
+unfolding openText
+returns-2 c =
+    put-text (c .before .before .before .before .before .before .before .before .before .before .before .has-room .ensures) (c .before .before .before .before .before .before .before .before .before .before .if1 .left) (then (c .before .before .before .before .before .before .before .put-number .ensures .0) (c .before .before .put-bytes .ensures))
 
 pub put-open-spec : {M : Type 1} → statement M
 put-open-spec =
