@@ -50,7 +50,8 @@ monthOfYearIn l = drop 5 l
 unfoldable pub isMonth : List ℕ → Bool
 isMonth l =
     eqb (length l) 7 && eqb (getD l 4 0) 45 && isNumber (yearIn l) && isNumber (monthOfYearIn l)
-    && leb 2000 (valueOf (yearIn l)) && leb 1 (valueOf (monthOfYearIn l)) && leb (valueOf (monthOfYearIn l)) 12
+    && leb 2000 (valueOf (yearIn l)) && leb (valueOf (yearIn l)) 9999
+    && leb 1 (valueOf (monthOfYearIn l)) && leb (valueOf (monthOfYearIn l)) 12
 
 unfoldable pub monthIn : List ℕ → List ℕ
 monthIn l = cond (isMonth l) (monthNumber (valueOf (yearIn l)) (valueOf (monthOfYearIn l)) ∷ []) []

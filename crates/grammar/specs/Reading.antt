@@ -14,7 +14,7 @@ numbersAs xs =
 
 -- The number of a month from what was read of its year and its month of the year.
 unfoldable pub monthFrom : ℕ → ℕ → List ℕ
-monthFrom y k = cond (leb 2000 y && leb 1 k && leb k 12) (monthNumber y k ∷ []) []
+monthFrom y k = cond (leb 2000 y && leb y 9999 && leb 1 k && leb k 12) (monthNumber y k ∷ []) []
 
 -- A number and those after it; none where there is none before or after.
 unfoldable pub ledBy : Numbers → Numbers → Numbers

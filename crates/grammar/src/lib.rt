@@ -18,10 +18,10 @@ const MONTH_LENGTH: usize = 7;
 // The numbers of a line: at most four, with 0 in the places of the others. A line that can't be read has none.
 pub struct Numbers {
     pub count: usize,
-    pub first: u64,
-    pub second: u64,
-    pub third: u64,
-    pub fourth: u64,
+    pub first: u32,
+    pub second: u32,
+    pub third: u32,
+    pub fourth: u32,
 }
 
 fn no_number() -> Numbers
@@ -36,7 +36,7 @@ fn no_number() -> Numbers
     }
 }
 
-fn one_number(number: u64) -> Numbers
+fn one_number(number: u32) -> Numbers
     ensures { λ r. ⌜ r ≡ numbersAs (number ∷ []) ⌝ }
 {
     Numbers {
@@ -108,7 +108,7 @@ fn number_in(text: &[u8]) -> Numbers
         }
         place += 1;
     }
-    one_number(value)
+    one_number(value as u32)
 }
 
 // A month, as its number.
@@ -133,11 +133,13 @@ fn month_in(text: &[u8]) -> Numbers
 }
 
 // The number of a month from 2000 to 9999.
-fn month_of(year: u64, of_year: u64) -> Numbers
-    requires { ⌜ year < 2 ^ 32 ⌝ }
+fn month_of(year: u32, of_year: u32) -> Numbers
     ensures { λ r. ⌜ r ≡ numbersAs (monthFrom year «of_year») ⌝ }
 {
     if year < 2000 {
+        return no_number();
+    }
+    if 9999 < year {
         return no_number();
     }
     if of_year < 1 {

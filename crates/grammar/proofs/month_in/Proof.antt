@@ -63,7 +63,7 @@ returns-4 c =
     rw (month-of-year (c .before .before .before .before .before .before .before .before .before .before .before .before .before .args .text .now) (c .before .before .before .before .before .before .before .before .before .before .before .if1 .left) (c .before .before .before .before .before .before .before .before .before .if2 .left) year not-month) (c .no-number4 .ensures)
 
 month-of-requires : tie.Need-month-of-requires
-month-of-requires c κs = read-fits _ _ (c .before .before .before .before .before .before .number-in .ensures) (c .before .before .before .before .if3 .left)
+month-of-requires c κs = search needs
 
 returns-5 : tie.Need-returns-5
 returns-5 c =

@@ -28,7 +28,19 @@ no-number-requires-3 c κs = search needs
 
 returns-3 : tie.Need-returns-3
 unfolding monthFrom
-returns-3 c = simp (le-leb _ _ (c .before .before .before .if1 .left), le-leb _ _ (c .before .before .if2 .left), lt-leb _ _ (c .before .if3 .taken)) (c .no-number3 .ensures)
+returns-3 c =
+    let b = c .before .before in
+    simp (le-leb _ _ (b .before .if1 .left), le-leb _ _ (b .if2 .left), lt-leb _ _ (c .before .if3 .taken)) (c .no-number3 .ensures)
+
+no-number-requires-4 : tie.Need-no-number-requires-4
+no-number-requires-4 c κs = search needs
+
+returns-4 : tie.Need-returns-4
+unfolding monthFrom
+returns-4 c =
+    let b = c .before .before in
+    simp (le-leb _ _ (b .before .before .if1 .left), le-leb _ _ (b .before .if2 .left), le-leb _ _ (b .if3 .left), lt-leb _ _ (c .before .if4 .taken))
+    (c .no-number4 .ensures)
 
 mul-one-number : tie.Need-mul-one-number
 mul-one-number c = search needs
@@ -39,9 +51,12 @@ add-one-number c = search needs
 one-number-requires : tie.Need-one-number-requires
 one-number-requires c κs = search needs
 
-returns-4 : tie.Need-returns-4
+returns-5 : tie.Need-returns-5
 unfolding monthFrom
-returns-4 c = simp (le-leb _ _ (c .before .before .before .if1 .left), le-leb _ _ (c .before .before .if2 .left), le-leb _ _ (c .before .if3 .left)) (c .one-number .ensures)
+returns-5 c =
+    let b = c .before .before in
+    simp (le-leb _ _ (b .before .before .if1 .left), le-leb _ _ (b .before .if2 .left), le-leb _ _ (b .if3 .left), le-leb _ _ (c .before .if4 .left))
+    (c .one-number .ensures)
 
 pub month-of-spec : {M : Type 1} → statement M
 month-of-spec =
@@ -53,7 +68,9 @@ month-of-spec =
     returns-2
     no-number-requires-3
     returns-3
+    no-number-requires-4
+    returns-4
     mul-one-number
     add-one-number
     one-number-requires
-    returns-4)
+    returns-5)

@@ -97,6 +97,9 @@ loop-again c =
     let value = value-next (lp .place) text (lp .value) (omega arith) in
     (omega arith, omega arith, lp .inv .2 ∙ digits, lp .inv .3 ∙ (rw (c .before .wide .ensures) value))
 
+cast-one-number : tie.Need-cast-one-number Inv-loop μ-loop
+cast-one-number c = omega arith
+
 one-number-requires : tie.Need-one-number-requires Inv-loop μ-loop
 one-number-requires c κs = tt
 
@@ -132,5 +135,6 @@ number-in-spec =
     add-place
     loop-less
     loop-again
+    cast-one-number
     one-number-requires
     returns-6)
