@@ -8,7 +8,8 @@ use lib.ListN.{length, length-append}
 use Rattle.calendar.specs.Calendar.{yearOf, monthOfYear}
 use Rattle.hours.specs.declared.ByPeriod.{ByPeriod}
 use Rattle.billing.specs.declared.Bill.{Bill}
-use Rattle.printing.specs.Text.{bytesOf, decimal, digitByte, digits, twoDigits}
+use Rattle.text.specs.Text.{bytesOf}
+use Rattle.printing.specs.Text.{decimal, digitByte, digits, twoDigits}
 use Rattle.printing.specs.Printing.{monthText, numberText, rowText, rowsText, billText, openText, lineText}
 
 -- A text has at most k bytes.

@@ -6,7 +6,7 @@ use Prim.Native.Nat.{ℕ, zero, suc, _+_, _-_}
 use lib.Dec.{eqb, leb}
 use lib.ListN.{length, take}
 use Rattle.printing.specs.Writing.{textRoom}
-use Rattle.session.specs.Statement.{State, start, lineRead, atEnd, statementOf}
+use Rattle.progress.specs.Statement.{State, start, lineRead, atEnd, statementOf}
 
 -- No readable line has more than 50 bytes, so of a line that isn't complete yet at most 51 are kept: they tell that it is too long.
 abbrev pub keptBytes : ℕ
@@ -23,11 +23,11 @@ begin = record { line = []; state = start }
 -- After one byte more, and what it prints.
 unfoldable pub afterByte : Reading → ℕ → Reading
 afterByte x b =
-    cond (eqb b 10) (record { line = []; state = lineRead (x .state) (x .line) .state })
+    cond (eqb b 10) (record { line = []; state = lineRead (x .line) (x .state) .state })
     (record { line = take keptBytes (x .line ++ b ∷ []); state = x .state })
 
 unfoldable pub byteText : Reading → ℕ → List ℕ
-byteText x b = cond (eqb b 10) (lineRead (x .state) (x .line) .text) []
+byteText x b = cond (eqb b 10) (lineRead (x .line) (x .state) .text) []
 
 unfoldable pub after : Reading → List ℕ → Reading
 after x [] = x
@@ -41,7 +41,7 @@ printed x (b ∷ bs) = byteText x b ++ printed (afterByte x b) bs
 unfoldable pub ending : Reading → List ℕ
 ending x =
     cond (eqb (length (x .line)) 0) (atEnd (x .state))
-    (lineRead (x .state) (x .line) .text ++ atEnd (lineRead (x .state) (x .line) .state))
+    (lineRead (x .line) (x .state) .text ++ atEnd (lineRead (x .line) (x .state) .state))
 
 -- How many bytes are taken where a buffer for the texts has so much room: each as long as any one text still fits.
 unfoldable pub takenOf : ℕ → Reading → List ℕ → ℕ

@@ -86,24 +86,24 @@ abbrev pub placeOfLine : ℕ → ℕ
 placeOfLine k = cond (leb k 6) k (k + 3)
 
 -- "It prints the opening's number once line 14 is read"; xs are the opening's numbers.
-unfoldable pub opened : State → List ℕ → Step
-opened s xs =
+unfoldable pub opened : List ℕ → State → Step
+opened xs s =
     let r : Reply = openingReply (s .account) (termsAt xs) (pricesAt xs) (getD xs 0 0) in
     printing (openText (r .number)) (state (s .number) billDue xs (r .account) (s .entered))
 
 -- A line of the opening.
-unfoldable pub openingRead : State → List ℕ → Step
-openingRead s v =
+unfoldable pub openingRead : List ℕ → State → Step
+openingRead v s =
     let xs : List ℕ = sets (s .values) (placeOfLine (s .due)) v in
     cond (isUnreadable v) (stop s)
-    (cond (ltb (s .due) 13) (printing [] (state (s .number) (s .due + 1) xs (s .account) (s .entered))) (opened s xs))
+    (cond (ltb (s .due) 13) (printing [] (state (s .number) (s .due + 1) xs (s .account) (s .entered))) (opened xs s))
 
 -- A month begins with its bill line; it has no readings yet.
 abbrev pub begun : ℕ → State → State
 begun m s = state (s .number) criticalDue (s .values) (s .account) (monthOf m (s .entered .critical) [] [])
 
-unfoldable pub billRead : State → List ℕ → Step
-billRead s v = cond (isUnreadable v) (stop s) (printing [] (begun (getD v 0 0) s))
+unfoldable pub billRead : List ℕ → State → Step
+billRead v s = cond (isUnreadable v) (stop s) (printing [] (begun (getD v 0 0) s))
 
 -- Its critical line.
 abbrev pub withCritical : ℕ → State → State
@@ -111,8 +111,8 @@ withCritical x s =
     state (s .number) runDue (s .values) (s .account)
     (monthOf (s .entered .month) x (s .entered .delivered) (s .entered .received))
 
-unfoldable pub criticalRead : State → List ℕ → Step
-criticalRead s v = cond (isUnreadable v) (stop s) (printing [] (withCritical (getD v 0 0) s))
+unfoldable pub criticalRead : List ℕ → State → Step
+criticalRead v s = cond (isUnreadable v) (stop s) (printing [] (withCritical (getD v 0 0) s))
 
 -- "any number of runs (count, delivered, received)": so many more readings of each register, in all at most 2,976.
 abbrev pub mostReadings : ℕ
@@ -125,36 +125,38 @@ withRun count d e s =
     (s .entered .delivered ++ replicate count d)
     (s .entered .received ++ replicate count e))
 
-unfoldable pub runRead : State → List ℕ → Step
-runRead s v =
-    cond (ltb mostReadings (length (s .entered .delivered) + getD v 0 0)) (stop s)
-    (printing [] (withRun (getD v 0 0) (getD v 1 0) (getD v 2 0) s))
+unfoldable pub runRead : ℕ → ℕ → ℕ → State → Step
+runRead count d e s =
+    cond (ltb mostReadings (length (s .entered .delivered) + count)) (stop s) (printing [] (withRun count d e s))
 
 -- "for each month, when it is complete, the month as entered, its number, the seven energy rows by period .., energy and due; a refused
 -- month's amounts are 0"
+abbrev pub monthReply : State → BillingReply
+monthReply s =
+    billingReply (s .account) (s .entered .month) (s .entered .delivered) (s .entered .received) (s .entered .critical)
+
 unfoldable pub monthEnd : State → Step
 monthEnd s =
-    let m : Month = s .entered in
-    let r : BillingReply = billingReply (s .account) (m .month) (m .delivered) (m .received) (m .critical) in
-    printing (billText (m .month) (r .number) (r .bill)) (state (s .number) (s .due) (s .values) (r .account) m)
+    let r : BillingReply = monthReply s in
+    printing (billText (s .entered .month) (r .number) (r .bill)) (state (s .number) (s .due) (s .values) (r .account) (s .entered))
 
 -- "it is complete when a readable bill line or the end of the input follows its critical line or a run"
-unfoldable pub laterRead : State → List ℕ → Step
-laterRead s l =
-    cond (not (isUnreadable (runLine l))) (runRead s (runLine l))
+unfoldable pub laterRead : List ℕ → State → Step
+laterRead l s =
+    cond (not (isUnreadable (runLine l))) (runRead (getD (runLine l) 0 0) (getD (runLine l) 1 0) (getD (runLine l) 2 0) s)
     (cond (isUnreadable (billLine l)) (stop s)
     (printing (monthEnd s .text) (begun (getD (billLine l) 0 0) (monthEnd s .state))))
 
 -- A line, by what is due. After a fault nothing changes and nothing is printed.
-unfoldable pub dueRead : State → List ℕ → Step
-dueRead s l =
-    cond (ltb (s .due) billDue) (openingRead s (openingLine (s .due) l))
-    (cond (eqb (s .due) billDue) (billRead s (billLine l))
-    (cond (eqb (s .due) criticalDue) (criticalRead s (criticalLine l))
-    (cond (eqb (s .due) runDue) (laterRead s l) (printing [] s))))
+unfoldable pub dueRead : List ℕ → State → Step
+dueRead l s =
+    cond (ltb (s .due) billDue) (openingRead (openingLine (s .due) l) s)
+    (cond (eqb (s .due) billDue) (billRead (billLine l) s)
+    (cond (eqb (s .due) criticalDue) (criticalRead (criticalLine l) s)
+    (cond (eqb (s .due) runDue) (laterRead l s) (printing [] s))))
 
-unfoldable pub lineRead : State → List ℕ → Step
-lineRead s l = dueRead (counted s) l
+unfoldable pub lineRead : List ℕ → State → Step
+lineRead l s = dueRead l (counted s)
 
 -- The end of the input: it completes a month, and fourteen lines with nothing after them are complete; elsewhere a line is absent, and has the
 -- number that it would have had.
@@ -166,7 +168,7 @@ atEnd s =
 -- What is printed from a state on.
 unfoldable pub textFrom : State → List (List ℕ) → List ℕ
 textFrom s [] = atEnd s
-textFrom s (l ∷ ls) = lineRead s l .text ++ textFrom (lineRead s l .state) ls
+textFrom s (l ∷ ls) = lineRead l s .text ++ textFrom (lineRead l s .state) ls
 
 -- Lines are the bytes between newline bytes. "The last line may lack its newline"; no bytes after the last newline are no line.
 unfoldable pub linesFrom : List ℕ → List ℕ → List (List ℕ)

@@ -1,0 +1,17 @@
+use borrow.Author.Needs.{needs}
+use Rattle.progress.proofs.Progress.start.Statement.{statement}
+use Rattle.progress.proofs.Progress.start.Tie as tie
+use Rattle.progress.proofs.Progress.start.Reads as reads
+use Rattle.progress.proofs.Progress.start.Lts as lts
+use Rattle.account.proofs.Account.fresh.Reads as fresh-reads
+
+-- src/lib.rt:342:13
+fresh-requires : tie.Need-fresh-requires
+fresh-requires c κs = search needs
+
+-- src/lib.rt:339:5
+returns : tie.Need-returns
+returns c = ?
+
+pub start-spec : {M : Type 1} → statement M
+start-spec = tie.close (tie.spec fresh-requires returns)

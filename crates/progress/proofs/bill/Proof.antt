@@ -1,0 +1,42 @@
+use borrow.Author.Needs.{needs}
+use Rattle.progress.proofs.bill.Statement.{statement}
+use Rattle.progress.proofs.bill.Tie as tie
+use Rattle.progress.proofs.bill.Reads as reads
+use Rattle.progress.proofs.bill.Lts as lts
+use Rattle.account.proofs.Account.billing.Reads as billing-reads
+use Rattle.progress.proofs.least.Reads as least-reads
+
+-- src/lib.rt:249:9
+least-requires : tie.Need-least-requires
+least-requires c κs = search needs
+
+-- src/lib.rt:250:9
+least-requires-2 : tie.Need-least-requires-2
+least-requires-2 c κs = search needs
+
+-- src/lib.rt:253:9
+slice-aggregate-billing : tie.Need-slice-aggregate-billing
+slice-aggregate-billing c = ?
+
+-- src/lib.rt:254:9
+slice-aggregate-billing-2 : tie.Need-slice-aggregate-billing-2
+slice-aggregate-billing-2 c = ?
+
+-- src/lib.rt:251:5
+billing-requires : tie.Need-billing-requires
+billing-requires c κs = search needs
+
+-- src/lib.rt:245:1
+returns : tie.Need-returns
+returns c = ?
+
+pub bill-spec : {M : Type 1} → statement M
+bill-spec =
+    tie.close
+    (tie.spec
+    least-requires
+    least-requires-2
+    slice-aggregate-billing
+    slice-aggregate-billing-2
+    billing-requires
+    returns)
