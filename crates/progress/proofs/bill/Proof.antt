@@ -1,3 +1,6 @@
+-- `progress::bill` bills the readings that there are.
+use mathlib.Core.Path.{_≡_, _∙_}
+use Rattle.progress.proofs.Lines.{least-long, least-taken}
 use borrow.Author.Needs.{needs}
 use Rattle.progress.proofs.bill.Statement.{statement}
 use Rattle.progress.proofs.bill.Tie as tie
@@ -16,11 +19,11 @@ least-requires-2 c κs = search needs
 
 -- src/lib.rt:253:9
 slice-aggregate-billing : tie.Need-slice-aggregate-billing
-slice-aggregate-billing c = ?
+slice-aggregate-billing c = least-long (c .before .before .before .before .before .before .args .delivered .now) (c .before .before .before .before .before .before .args .progress .filled) _ (c .before .before .least .ensures)
 
 -- src/lib.rt:254:9
 slice-aggregate-billing-2 : tie.Need-slice-aggregate-billing-2
-slice-aggregate-billing-2 c = ?
+slice-aggregate-billing-2 c = least-long (c .before .before .before .before .before .before .before .args .received .now) (c .before .before .before .before .before .before .before .args .progress .filled) _ (c .before .before .least2 .ensures)
 
 -- src/lib.rt:251:5
 billing-requires : tie.Need-billing-requires
@@ -28,7 +31,11 @@ billing-requires c κs = search needs
 
 -- src/lib.rt:245:1
 returns : tie.Need-returns
-returns c = ?
+returns c =
+    let args = c .before .before .before .before .before .before .before .before .args in
+    let taken = least-taken (args .delivered .now) (args .progress .filled) _ (c .before .before .before .before .least .ensures) in
+    let given = least-taken (args .received .now) (args .progress .filled) _ (c .before .before .before .least2 .ensures) in
+    c .billing .ensures ∙ rw (taken, given)
 
 pub bill-spec : {M : Type 1} → statement M
 bill-spec =

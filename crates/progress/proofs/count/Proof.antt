@@ -1,3 +1,5 @@
+-- `progress::count` changes the number alone.
+use Rattle.progress.specs.Statement.{counted}
 use borrow.Author.Needs.{needs}
 use Rattle.progress.proofs.count.Statement.{statement}
 use Rattle.progress.proofs.count.Tie as tie
@@ -11,7 +13,8 @@ next-number-requires c κs = search needs
 
 -- src/lib.rt:57:1
 returns : tie.Need-returns
-returns c = ?
+unfolding counted
+returns c = λ d e. rw (c .next-number .ensures)
 
 pub count-spec : {M : Type 1} → statement M
 count-spec = tie.close (tie.spec next-number-requires returns)

@@ -1,3 +1,7 @@
+-- `progress::stop_at` writes the number of the line, and no line is due any more.
+use mathlib.Core.Path.{refl}
+use Rattle.progress.specs.Statement.{stop}
+use Rattle.progress.proofs.Lines.{puts}
 use borrow.Author.Needs.{needs}
 use Rattle.progress.proofs.stop_at.Statement.{statement}
 use Rattle.progress.proofs.stop_at.Tie as tie
@@ -15,7 +19,8 @@ same-length c = search needs
 
 -- src/lib.rt:66:1
 returns : tie.Need-returns
-returns c = ?
+unfolding stop
+returns c = λ d e. record { state = refl; text = puts _ _ _ _ _ (c .before .before .before .before .before .pre) (c .before .before .put-line .ensures) }
 
 pub stop-at-spec : {M : Type 1} → statement M
 stop-at-spec = tie.close (tie.spec put-line-requires same-length returns)
