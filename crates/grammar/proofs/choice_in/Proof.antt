@@ -4,11 +4,6 @@ use Rattle.grammar.specs.Grammar.{choiceIn}
 use borrow.Author.Needs.{needs}
 use Rattle.grammar.proofs.choice_in.Statement.{statement}
 use Rattle.grammar.proofs.choice_in.Tie as tie
-use Rattle.grammar.proofs.choice_in.Reads as reads
-use Rattle.grammar.proofs.choice_in.Lts as lts
-use Rattle.grammar.proofs.is_text.Reads as is-text-reads
-use Rattle.grammar.proofs.no_number.Reads as no-number-reads
-use Rattle.grammar.proofs.one_number.Reads as one-number-reads
 
 is-text-requires : tie.Need-is-text-requires
 is-text-requires c κs = search needs

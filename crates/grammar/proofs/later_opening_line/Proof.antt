@@ -4,10 +4,6 @@ use Rattle.grammar.proofs.Texts.{opening-past, next}
 use borrow.Author.Needs.{needs}
 use Rattle.grammar.proofs.later_opening_line.Statement.{statement}
 use Rattle.grammar.proofs.later_opening_line.Tie as tie
-use Rattle.grammar.proofs.later_opening_line.Reads as reads
-use Rattle.grammar.proofs.later_opening_line.Lts as lts
-use Rattle.grammar.proofs.keyed_number.Reads as keyed-number-reads
-use Rattle.grammar.proofs.no_number.Reads as no-number-reads
 
 slice-aggregate-keyed-number : tie.Need-slice-aggregate-keyed-number
 slice-aggregate-keyed-number c = search needs

@@ -6,11 +6,6 @@ use Rattle.grammar.proofs.Months.{month-length, month-dash, month-year,
 use borrow.Author.Needs.{needs}
 use Rattle.grammar.proofs.month_in.Statement.{statement}
 use Rattle.grammar.proofs.month_in.Tie as tie
-use Rattle.grammar.proofs.month_in.Reads as reads
-use Rattle.grammar.proofs.month_in.Lts as lts
-use Rattle.grammar.proofs.month_of.Reads as month-of-reads
-use Rattle.grammar.proofs.no_number.Reads as no-number-reads
-use Rattle.grammar.proofs.number_in.Reads as number-in-reads
 
 no-number-requires : tie.Need-no-number-requires
 no-number-requires c κs = search needs

@@ -4,10 +4,6 @@ use Rattle.grammar.specs.Reading.{monthFrom}
 use borrow.Author.Needs.{needs}
 use Rattle.grammar.proofs.month_of.Statement.{statement}
 use Rattle.grammar.proofs.month_of.Tie as tie
-use Rattle.grammar.proofs.month_of.Reads as reads
-use Rattle.grammar.proofs.month_of.Lts as lts
-use Rattle.grammar.proofs.no_number.Reads as no-number-reads
-use Rattle.grammar.proofs.one_number.Reads as one-number-reads
 
 no-number-requires : tie.Need-no-number-requires
 no-number-requires c κs = search needs

@@ -8,11 +8,6 @@ use Rattle.grammar.proofs.Digits.{digits-next, digits-low, digits-high,
 use Rattle.grammar.proofs.Digits.{number-empty, number-long, number-no-digits, number-large, number-is}
 use Rattle.grammar.proofs.number_in.Statement.{statement}
 use Rattle.grammar.proofs.number_in.Tie as tie
-use Rattle.grammar.proofs.number_in.Reads as reads
-use Rattle.grammar.proofs.number_in.Lts as lts
-use Rattle.grammar.proofs.no_number.Reads as no-number-reads
-use Rattle.grammar.proofs.one_number.Reads as one-number-reads
-use Rattle.grammar.proofs.wide.Reads as wide-reads
 
 abbrev Inv-loop : tie.InvT-loop
 Inv-loop text value₀ place₀ value place =
