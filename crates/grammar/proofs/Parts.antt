@@ -1,13 +1,13 @@
 -- The parts between commas, one after the other, and the numbers that they are.
-use mathlib.Core.Path.{_≡_, refl, sym, _∙_, ap}
-use mathlib.Core.Bool.{Bool, true, false, cond, _&&_, _||_, and-true}
+use mathlib.Core.Path.{_≡_, refl, sym, _∙_}
+use mathlib.Core.Bool.{Bool, true, false, cond, _&&_, and-true}
 use mathlib.Core.List.{List, [], _∷_, map}
 use Prim.Native.Nat.{ℕ, zero, suc, _+_, _-_, _≤_, _<_}
 use native.Mathlib.Numerals.{add-one}
 use native.Mathlib.Omega.{arith}
-use borrow.Author.Tests.{eq-eqb, ne-eqb, eqb-true}
+use borrow.Author.Tests.{ne-eqb, eqb-true}
 use lib.Dec.{eqb, eqb·suc-suc}
-use lib.ListN.{length, getD, take, drop, length-map, length-drop}
+use lib.ListN.{length, take, drop, length-map}
 use lib.Seq.{take-all}
 use Rattle.calendar.proofs.Booleans.{and-both}
 use Rattle.text.specs.Text.{placeOf}

@@ -5,7 +5,7 @@ use mathlib.Core.List.{List, [], _∷_, map}
 use mathlib.Core.Logic.{_⊎_, inl, inr}
 use Prim.Native.Nat.{ℕ, zero, suc, _+_, _-_, _*_, _^_, _≤_, _<_}
 use native.Mathlib.Omega.{arith}
-use borrow.Author.Tests.{eqb-true, leb-true, ltb-true, ne-eqb}
+use borrow.Author.Tests.{eqb-true, leb-true, ne-eqb}
 use lib.Dec.{eqb, leb, ltb}
 use lib.ListN.{length, getD, take, drop, length-map, length-drop}
 use lib.Seq.{length-take-le}

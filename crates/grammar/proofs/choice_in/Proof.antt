@@ -1,5 +1,5 @@
 -- `grammar::choice_in` tries one word after the other, as the definition does.
-use mathlib.Core.Path.{_≡_, sym, _∙_}
+use mathlib.Core.Path.{sym, _∙_}
 use Rattle.grammar.specs.Grammar.{choiceIn}
 use borrow.Author.Needs.{needs}
 use Rattle.grammar.proofs.choice_in.Statement.{statement}

@@ -1,9 +1,9 @@
 -- `grammar::number_in` reads one digit after the other: `Digits` has the step.
-use mathlib.Core.Path.{_≡_, refl, sym, _∙_}
+use mathlib.Core.Path.{_≡_, refl, _∙_}
 use Prim.Native.Nat.{_≤_, _<_, _-_, _+_, _*_, _^_}
 use native.Mathlib.Omega.{arith}
 use lib.ListN.{length, getD, drop}
-use Rattle.grammar.specs.Grammar.{allDigits, valueAfter, valueOf, numberIn}
+use Rattle.grammar.specs.Grammar.{allDigits, valueAfter, valueOf}
 use Rattle.grammar.proofs.Digits.{digits-next, digits-low, digits-high, digits-end, value-next, value-end, value-grows}
 use Rattle.grammar.proofs.Digits.{number-empty, number-long, number-no-digits, number-large, number-is}
 use Rattle.grammar.proofs.number_in.Statement.{statement}
