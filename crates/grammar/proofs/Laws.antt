@@ -7,10 +7,12 @@ use native.Mathlib.Omega.{arith}
 use lib.ListN.{length, getD, drop, set}
 use lib.Seq.{getD-set-other}
 use Rattle.text.specs.Text.{bytesOf}
-use Rattle.grammar.specs.Grammar.{numberIn, monthIn, choiceIn, numbersIn, keyed, openingLines, openingLine, billLine, criticalLine, runLine}
+use Rattle.grammar.specs.Grammar.{numberIn, monthIn, choiceIn, numbersIn, keyed}
+use Rattle.grammar.specs.Grammar.{openingLines, openingLine, billLine, criticalLine, runLine}
 use Rattle.grammar.proofs.Digits.{number-long}
 use Rattle.grammar.proofs.Sizes.{Reader, Short, Few, Below, keyed-either, keyed-short, keyed-few, keyed-below}
-use Rattle.grammar.proofs.Sizes.{number-few, number-below, month-short, month-few, month-below, choice-short, choice-few, choice-below, numbers-short, numbers-below, numbers-all}
+use Rattle.grammar.proofs.Sizes.{number-few, number-below, month-short, month-few, month-below}
+use Rattle.grammar.proofs.Sizes.{choice-short, choice-few, choice-below, numbers-short, numbers-below, numbers-all}
 
 -- A line that is read by a key.
 record Readable (read : Reader) : Type 0 where
@@ -32,7 +34,8 @@ module _ (key : List ℕ) where
         below = keyed-below key monthIn (2 ^ 32) (omega arith) (λ l i. omega (arith, month-below l i));
       }
 
-  a-choice : (first second : List ℕ) → length key ≤ 40 → length first ≤ 10 → length second ≤ 10 → Readable (keyed key (choiceIn first second))
+  a-choice : (first second : List ℕ) → length key ≤ 40 → length first ≤ 10 → length second ≤ 10
+      → Readable (keyed key (choiceIn first second))
   a-choice first second h p q =
       record {
         short = keyed-short key (choiceIn first second) 10 50 (omega arith) (choice-short 10 first second p q);

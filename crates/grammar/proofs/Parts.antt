@@ -55,7 +55,8 @@ unfolding partsOf placeOf
 parts-more [] h = absurd (omega arith)
 parts-more (b ∷ l) h = by (eqb b 44) (parts-more l) h
   where
-    by : (t : Bool) → (placeOf 44 l < length l → partsOf l ≡ take (placeOf 44 l) l ∷ partsOf (drop (suc (placeOf 44 l)) l)) → cond t zero (suc (placeOf 44 l)) < suc (length l)
+    by : (t : Bool) → (placeOf 44 l < length l → partsOf l ≡ take (placeOf 44 l) l ∷ partsOf (drop (suc (placeOf 44 l)) l))
+        → cond t zero (suc (placeOf 44 l)) < suc (length l)
         → cond t ([] ∷ partsOf l) (onFirst b (partsOf l))
         ≡ take (cond t zero (suc (placeOf 44 l))) (b ∷ l) ∷ partsOf (drop (suc (cond t zero (suc (placeOf 44 l)))) (b ∷ l))
     by true next h = refl

@@ -1,4 +1,5 @@
--- What is readable is short, gives as many numbers as are asked for, and they fit 32 bits: numbers, months, words and what stands after a key.
+-- What is readable is short, gives as many numbers as are asked for, and they fit 32 bits. Numbers, months and words, and what stands
+-- after a key.
 use mathlib.Core.Path.{_≡_, refl, _∙_}
 use mathlib.Core.Bool.{Bool, true, false, cond, _&&_}
 use mathlib.Core.List.{List, [], _∷_, map}
@@ -91,7 +92,8 @@ month-in-range l e =
     let (e, _) = and-both (long && dash && year) month e in
     let (e, y) = and-both (long && dash) year e in
     let size = eqb-true (length l) 7 (and-both long dash e .0) in
-    omega (arith, leb-true (valueOf (drop 5 l)) 12 last, four-digits (take 4 l) (length-take-le 4 l (omega arith)) (number-digits (take 4 l) y .1))
+    let most = leb-true (valueOf (drop 5 l)) 12 last in
+    omega (arith, four-digits (take 4 l) (length-take-le 4 l (omega arith)) (number-digits (take 4 l) y .1))
 
 pub month-short : Short 7 monthIn
 month-short l h = month-length l (λ e. omega arith)
@@ -158,7 +160,8 @@ all-below (p ∷ ps) e zero = number-fits p (and-both (isNumber p) (allNumbers p
 all-below (p ∷ ps) e (suc i) = all-below ps (and-both (isNumber p) (allNumbers ps) e .1) i
 
 -- What holds of none and of as many numbers as are asked for.
-numbers-either : (P : List ℕ → Type 0) (n : ℕ) (l : List ℕ) → P [] → (length (partsOf l) ≡ n → allNumbers (partsOf l) ≡ true → P (map valueOf (partsOf l)))
+numbers-either : (P : List ℕ → Type 0) (n : ℕ) (l : List ℕ) → P []
+    → (length (partsOf l) ≡ n → allNumbers (partsOf l) ≡ true → P (map valueOf (partsOf l)))
     → P (numbersIn n l)
 unfolding numbersIn
 numbers-either P n l none some = by (eqb (length (partsOf l)) n) (allNumbers (partsOf l)) refl refl
@@ -180,7 +183,8 @@ numbers-all n l =
     numbers-either (λ xs. (length xs ≡ 0) ⊎ (length xs ≡ n)) n l (inl refl) (λ e f. inr (length-map (partsOf l) valueOf ∙ e))
 
 -- What holds of none and of what is read after a key.
-pub keyed-either : (P : List ℕ → Type 0) (key : List ℕ) (read : Reader) (l : List ℕ) → P [] → P (read (drop (length key) l)) → P (keyed key read l)
+pub keyed-either : (P : List ℕ → Type 0) (key : List ℕ) (read : Reader) (l : List ℕ)
+    → P [] → P (read (drop (length key) l)) → P (keyed key read l)
 unfolding keyed
 keyed-either P key read l none some = by (beginsWith key l)
   where

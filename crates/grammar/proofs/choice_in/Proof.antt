@@ -24,7 +24,8 @@ one-number-requires-2 c κs = search needs
 returns-2 : tie.Need-returns-2
 unfolding choiceIn
 returns-2 c =
-    rw (sym (c .before .before .before .before .is-text .ensures) ∙ c .before .before .before .if1 .left, sym (c .before .before .is-text2 .ensures) ∙ c .before .if2 .taken) (c .one-number2 .ensures)
+    let first = sym (c .before .before .before .before .is-text .ensures) ∙ c .before .before .before .if1 .left in
+    rw (first, sym (c .before .before .is-text2 .ensures) ∙ c .before .if2 .taken) (c .one-number2 .ensures)
 
 no-number-requires : tie.Need-no-number-requires
 no-number-requires c κs = search needs
@@ -32,7 +33,8 @@ no-number-requires c κs = search needs
 returns-3 : tie.Need-returns-3
 unfolding choiceIn
 returns-3 c =
-    rw (sym (c .before .before .before .before .is-text .ensures) ∙ c .before .before .before .if1 .left, sym (c .before .before .is-text2 .ensures) ∙ c .before .if2 .left) (c .no-number .ensures)
+    let first = sym (c .before .before .before .before .is-text .ensures) ∙ c .before .before .before .if1 .left in
+    rw (first, sym (c .before .before .is-text2 .ensures) ∙ c .before .if2 .left) (c .no-number .ensures)
 
 pub choice-in-spec : {M : Type 1} → statement M
 choice-in-spec =

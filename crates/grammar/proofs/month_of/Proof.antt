@@ -24,7 +24,9 @@ no-number-requires-3 c κs = search needs
 
 returns-3 : tie.Need-returns-3
 unfolding monthFrom
-returns-3 c = simp (le-leb _ _ (c .before .before .before .if1 .left), le-leb _ _ (c .before .before .if2 .left), lt-leb _ _ (c .before .if3 .taken)) (c .no-number3 .ensures)
+returns-3 c =
+    simp (le-leb _ _ (c .before .before .before .if1 .left), le-leb _ _ (c .before .before .if2 .left), lt-leb _ _ (c .before .if3 .taken))
+    (c .no-number3 .ensures)
 
 mul-one-number : tie.Need-mul-one-number
 mul-one-number c = search needs
@@ -37,7 +39,9 @@ one-number-requires c κs = search needs
 
 returns-4 : tie.Need-returns-4
 unfolding monthFrom
-returns-4 c = simp (le-leb _ _ (c .before .before .before .if1 .left), le-leb _ _ (c .before .before .if2 .left), le-leb _ _ (c .before .if3 .left)) (c .one-number .ensures)
+returns-4 c =
+    simp (le-leb _ _ (c .before .before .before .if1 .left), le-leb _ _ (c .before .before .if2 .left), le-leb _ _ (c .before .if3 .left))
+    (c .one-number .ensures)
 
 pub month-of-spec : {M : Type 1} → statement M
 month-of-spec =

@@ -75,7 +75,8 @@ returns-5 c =
     let text = c .before .before .before .before .before .before .before .before .before .before .before .args .text .now in
     let lp = c .before .before .before .before .before .before .before .loop in
     let value = lp .value * 10 + (getD text (lp .place) 0 - 48) in
-    let large : 2 ^ 32 ≤ valueOf text = omega (arith, lp .inv .3, value-next (lp .place) text (lp .value) (omega arith), value-grows value (drop (lp .place + 1) text)) in
+    let next = value-next (lp .place) text (lp .value) (omega arith) in
+    let large : 2 ^ 32 ≤ valueOf text = omega (arith, value-grows value (drop (lp .place + 1) text)) in
     rw (number-large text large) (c .no-number5 .ensures)
 
 add-place : tie.Need-add-place Inv-loop μ-loop

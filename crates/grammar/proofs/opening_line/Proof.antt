@@ -42,7 +42,8 @@ keyed-numbers-requires c κs = tt
 later-opening-line-requires : tie.Need-later-opening-line-requires
 later-opening-line-requires c κs =
     let past = c .match .rest in
-    next 6 (next 5 (next 4 (next 3 (next 2 (next 1 (next 0 (omega arith) (past .0 .0 .0 .0 .0 .0 .1)) (past .0 .0 .0 .0 .0 .1)) (past .0 .0 .0 .0 .1)) (past .0 .0 .0 .1)) (past .0 .0 .1)) (past .0 .1)) (past .1)
+    let some = next 2 (next 1 (next 0 (omega arith) (past .0 .0 .0 .0 .0 .0 .1)) (past .0 .0 .0 .0 .0 .1)) (past .0 .0 .0 .0 .1) in
+    next 6 (next 5 (next 4 (next 3 some (past .0 .0 .0 .1)) (past .0 .0 .1)) (past .0 .1)) (past .1)
 
 returns : tie.Need-returns
 unfolding openingLine
