@@ -1,17 +1,17 @@
 -- A number, digit after digit.
-use mathlib.Core.Path.{_≡_, refl, sym, _∙_, ap}
+use mathlib.Core.Path.{_≡_, refl}
 use mathlib.Core.Bool.{Bool, true, false, cond, _&&_, and-false}
 use mathlib.Core.List.{List, [], _∷_}
-use Prim.Native.Nat.{ℕ, suc, _+_, _-_, _*_, _^_, _≤_, _<_}
+use Prim.Native.Nat.{ℕ, _+_, _-_, _*_, _^_, _≤_, _<_}
 use native.Mathlib.Numerals.{add-one}
 use native.Mathlib.Omega.{arith}
-use borrow.Author.Tests.{lt-ltb, le-ltb, le-leb, lt-leb, eq-eqb, ne-eqb, ltb-true}
-use lib.Dec.{eqb, leb, ltb}
-use lib.ListN.{length, getD, take, drop, drop-of-length-le}
+use borrow.Author.Tests.{lt-ltb, le-ltb, le-leb, lt-leb, ltb-true}
+use lib.Dec.{leb, ltb}
+use lib.ListN.{length, getD, drop, drop-of-length-le}
 use lib.Seq.{drop-cons}
-use Rattle.grammar.specs.Grammar.{allDigits, valueAfter, valueOf, isNumber, numberIn, isMonth, monthIn}
+use Rattle.grammar.specs.Grammar.{allDigits, valueAfter, valueOf, isNumber, numberIn}
 use Rattle.grammar.specs.declared.Numbers.{Numbers}
-use Rattle.grammar.specs.Reading.{numbersAs, monthFrom}
+use Rattle.grammar.specs.Reading.{numbersAs}
 use Rattle.calendar.proofs.Booleans.{and-both}
 
 module _ (i : ℕ) (l : List ℕ) where

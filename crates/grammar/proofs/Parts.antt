@@ -1,13 +1,13 @@
 -- The parts between commas, one after the other, and the numbers that they are.
-use mathlib.Core.Path.{_≡_, refl, sym, _∙_, ap}
-use mathlib.Core.Bool.{Bool, true, false, cond, _&&_, _||_, and-true}
+use mathlib.Core.Path.{_≡_, refl, sym, _∙_}
+use mathlib.Core.Bool.{Bool, true, false, cond, _&&_, and-true}
 use mathlib.Core.List.{List, [], _∷_, map}
 use Prim.Native.Nat.{ℕ, zero, suc, _+_, _-_, _≤_, _<_}
 use native.Mathlib.Numerals.{add-one}
 use native.Mathlib.Omega.{arith}
-use borrow.Author.Tests.{eq-eqb, ne-eqb, eqb-true}
+use borrow.Author.Tests.{ne-eqb, eqb-true}
 use lib.Dec.{eqb, eqb·suc-suc}
-use lib.ListN.{length, getD, take, drop, length-map, length-drop}
+use lib.ListN.{length, take, drop, length-map}
 use lib.Seq.{take-all}
 use Rattle.calendar.proofs.Booleans.{and-both}
 use Rattle.text.specs.Text.{placeOf}
@@ -55,7 +55,8 @@ unfolding partsOf placeOf
 parts-more [] h = absurd (omega arith)
 parts-more (b ∷ l) h = by (eqb b 44) (parts-more l) h
   where
-    by : (t : Bool) → (placeOf 44 l < length l → partsOf l ≡ take (placeOf 44 l) l ∷ partsOf (drop (suc (placeOf 44 l)) l)) → cond t zero (suc (placeOf 44 l)) < suc (length l)
+    by : (t : Bool) → (placeOf 44 l < length l → partsOf l ≡ take (placeOf 44 l) l ∷ partsOf (drop (suc (placeOf 44 l)) l))
+        → cond t zero (suc (placeOf 44 l)) < suc (length l)
         → cond t ([] ∷ partsOf l) (onFirst b (partsOf l))
         ≡ take (cond t zero (suc (placeOf 44 l))) (b ∷ l) ∷ partsOf (drop (suc (cond t zero (suc (placeOf 44 l)))) (b ∷ l))
     by true next h = refl

@@ -254,14 +254,35 @@ pub fn opening_line(k: u32, line: &[u8]) -> Numbers
 {
     match k {
         0 => keyed_month(line, b"opens="),
-        1 => keyed_choice(line, b"rider=", b"banked", b"bridge"),
-        2 => keyed_choice(line, b"class=", b"home", b"business"),
+        1 => rider_line(line),
+        2 => class_line(line),
         3 => keyed_number(line, b"nameplate="),
         4 => keyed_number(line, b"limit="),
-        5 => keyed_choice(line, b"assisted=", b"no", b"yes"),
+        5 => assisted_line(line),
         6 => keyed_numbers(line, b"prices=", 4),
         _ => later_opening_line(k, line),
     }
+}
+
+// The second of them.
+fn rider_line(line: &[u8]) -> Numbers
+    ensures { λ r. ⌜ r ≡ numbersAs (openingLine 1 (now (line .entry))) ⌝ }
+{
+    keyed_choice(line, b"rider=", b"banked", b"bridge")
+}
+
+// The third of them.
+fn class_line(line: &[u8]) -> Numbers
+    ensures { λ r. ⌜ r ≡ numbersAs (openingLine 2 (now (line .entry))) ⌝ }
+{
+    keyed_choice(line, b"class=", b"home", b"business")
+}
+
+// The sixth of them.
+fn assisted_line(line: &[u8]) -> Numbers
+    ensures { λ r. ⌜ r ≡ numbersAs (openingLine 5 (now (line .entry))) ⌝ }
+{
+    keyed_choice(line, b"assisted=", b"no", b"yes")
 }
 
 // One of the last seven of them.

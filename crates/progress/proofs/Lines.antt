@@ -1,14 +1,19 @@
 -- What lines change, over plain values: each law says what a definition gives where a test holds or fails.
 use mathlib.Core.Path.{_≡_, refl, sym, _∙_, ap, subst}
+use mathlib.Core.Logic.{⊎-elim}
 use mathlib.Core.Bool.{Bool, true, false, cond, not, _||_}
 use mathlib.Core.List.{List, [], _∷_, _++_}
 use Prim.Native.Nat.{ℕ, suc, _+_, _≤_, _<_, min}
 use native.Mathlib.Omega.{arith}
-use borrow.Author.Tests.{leb-true, leb-false, lt-ltb, le-ltb, eq-eqb, ne-eqb}
+use borrow.Author.Tests.{leb-true, leb-false, eqb-true, eqb-false, lt-ltb, le-ltb, eq-eqb, ne-eqb}
 use lib.Dec.{eqb, leb, ltb}
 use lib.ListN.{length, getD, take, length-take}
 use lib.Seq.{take-all, sets}
+use Rattle.tariff.specs.declared.Terms.{Terms}
+use Rattle.tariff.specs.declared.PriceList.{PriceList}
 use Rattle.account.specs.declared.Reply.{Reply}
+use Rattle.account.specs.Account.{openingReply}
+use Rattle.records.specs.Records.{termsAt, pricesAt}
 use Rattle.account.specs.declared.BillingReply.{BillingReply}
 use Rattle.grammar.specs.declared.Numbers.{Numbers}
 use Rattle.grammar.specs.Grammar.{openingLine, billLine, criticalLine, runLine}
@@ -17,7 +22,8 @@ use Rattle.printing.specs.Printing.{billText, openText, lineText}
 use Rattle.printing.specs.Writing.{hasRoom, Wrote, Put}
 use Rattle.progress.specs.Statement.{State, state, Step, printing, nextNumber, stop, opened, openingRead, begun, billRead, withCritical, criticalRead}
 use Rattle.progress.specs.Statement.{placeOfLine, withRun, runRead, monthReply, monthEnd, laterRead, dueRead, atEnd}
-use Rattle.progress.specs.Progressing.{Ends}
+use Rattle.progress.specs.Progressing.{Ends, Reads, valuesWith}
+use Rattle.grammar.proofs.Laws.{opening-count, prices-count}
 
 -- As many readings as there are.
 pub least-long : (l : List ℕ) (n r : ℕ) → r ≡ min n (length l) → r ≡ length (take r l)
@@ -183,3 +189,69 @@ month-ends o i p j s r e h w =
           puts o i (billText (s .entered .month) (monthReply s .number) (monthReply s .bill)) p j h
           (subst (λ (q : BillingReply). Put o i (billText (s .entered .month) (q .number) (q .bill)) p j) e w);
     }
+
+-- The account is opened.
+pub account-opens : (o : List ℕ) (i : ℕ) (p : List ℕ) (j : ℕ) (s : State) (xs wide : List ℕ) (t : Terms) (l : PriceList) (r : Reply)
+    → wide ≡ xs → t ≡ termsAt wide → l ≡ pricesAt wide → r ≡ openingReply (s .account) t l (getD xs 0 0) → hasRoom o i ≡ true
+    → Put o i (openText (r .number)) p j → Ends o i (opened xs s) (state (s .number) 14 xs (r .account) (s .entered)) p j
+unfolding opened
+account-opens o i p j s xs wide t l r ew et el er h w =
+    let q : r ≡ openingReply (s .account) (termsAt xs) (pricesAt xs) (getD xs 0 0) = er ∙ rw (et, el, ew) in
+    record {
+      state = ap (λ (y : Reply). state (s .number) 14 xs (y .account) (s .entered)) q;
+      text = puts o i (openText (openingReply (s .account) (termsAt xs) (pricesAt xs) (getD xs 0 0) .number)) p j h (subst (λ (y : Reply). Put o i (openText (y .number)) p j) q w);
+    }
+
+-- A list of one number, or of four.
+one-is : (v : List ℕ) → length v ≡ 1 → getD v 0 0 ∷ [] ≡ v
+one-is [] h = absurd (omega (arith, h))
+one-is (x ∷ []) h = refl
+one-is (x ∷ y ∷ v) h = absurd (omega (arith, h))
+
+four-is : (v : List ℕ) → length v ≡ 4 → getD v 0 0 ∷ getD v 1 0 ∷ getD v 2 0 ∷ getD v 3 0 ∷ [] ≡ v
+four-is [] h = absurd (omega (arith, h))
+four-is (x ∷ []) h = absurd (omega (arith, h))
+four-is (x ∷ y ∷ []) h = absurd (omega (arith, h))
+four-is (x ∷ y ∷ z ∷ []) h = absurd (omega (arith, h))
+four-is (x ∷ y ∷ z ∷ w ∷ []) h = refl
+four-is (x ∷ y ∷ z ∷ w ∷ u ∷ v) h = absurd (omega (arith, h))
+
+-- The numbers of a line of the opening are put where the definition puts them.
+values-six : (xs l : List ℕ) (x : Numbers) → x ≡ numbersAs (openingLine 6 l) → (x .count ≡ 0 → ⊥)
+    → valuesWith xs 6 x ≡ sets xs (placeOfLine 6) (openingLine 6 l)
+unfolding valuesWith
+values-six xs l x e h =
+    let n : x .count ≡ length (openingLine 6 l) = ap (λ (y : Numbers). y .count) e in
+    let four : length (openingLine 6 l) ≡ 4 = ⊎-elim (λ q. absurd (h (n ∙ q))) (λ q. q) (prices-count l) in
+    ap (λ (y : Numbers). sets xs 6 (y .first ∷ y .second ∷ y .third ∷ y .fourth ∷ [])) e ∙ ap (sets xs 6) (four-is (openingLine 6 l) four)
+
+values-one : (xs : List ℕ) (k : ℕ) (l : List ℕ) (x : Numbers) → (k ≡ 6 → ⊥) → x ≡ numbersAs (openingLine k l) → (x .count ≡ 0 → ⊥)
+    → valuesWith xs k x ≡ sets xs (placeOfLine k) (openingLine k l)
+unfolding valuesWith
+values-one xs k l x m e h =
+    let n : x .count ≡ length (openingLine k l) = ap (λ (y : Numbers). y .count) e in
+    let some : length (openingLine k l) ≡ 0 → ⊥ = λ q. h (n ∙ q) in
+    let one : length (openingLine k l) ≡ 1 = omega (arith, opening-count k l m, some) in
+    rw (ne-eqb k 6 m)
+    (ap (λ (y : Numbers). sets xs (placeOfLine k) (y .first ∷ [])) e ∙ ap (sets xs (placeOfLine k)) (one-is (openingLine k l) one))
+
+values-by : (xs : List ℕ) (k : ℕ) (l : List ℕ) (x : Numbers) → x ≡ numbersAs (openingLine k l) → (x .count ≡ 0 → ⊥)
+    → (b : Bool) → eqb k 6 ≡ b → valuesWith xs k x ≡ sets xs (placeOfLine k) (openingLine k l)
+values-by xs k l x e h true q =
+    let six : k ≡ 6 = eqb-true k 6 q in
+    subst (λ (n : ℕ). x ≡ numbersAs (openingLine n l) → valuesWith xs n x ≡ sets xs (placeOfLine n) (openingLine n l)) (sym six)
+    (λ f. values-six xs l x f h) e
+values-by xs k l x e h false q = values-one xs k l x (eqb-false k 6 q) e h
+
+pub values-are : (xs : List ℕ) (k : ℕ) (l : List ℕ) (x : Numbers) → x ≡ numbersAs (openingLine k l) → (x .count ≡ 0 → ⊥)
+    → valuesWith xs k x ≡ sets xs (placeOfLine k) (openingLine k l)
+values-are xs k l x e h = values-by xs k l x e h (eqb k 6) refl
+
+-- Where a text fits, a line is read.
+pub reads-some : (o : List ℕ) (i : ℕ) (s : State) (step : Step) (t : State) (p : List ℕ) (j : ℕ) → hasRoom o i ≡ true
+    → Ends o i step t p j → Reads o i s step t p j
+reads-some o i s step t p j h w =
+    record { state = w .state ∙ sym (rw h); bytes = w .text .bytes ∙ sym (rw h); end = w .text .end ∙ sym (rw h) }
+
+pub reads-none : (o : List ℕ) (i : ℕ) (s : State) (step : Step) → hasRoom o i ≡ false → Reads o i s step s o i
+reads-none o i s step h = record { state = sym (rw h); bytes = sym (rw h); end = sym (rw h) }

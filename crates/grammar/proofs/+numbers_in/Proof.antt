@@ -60,25 +60,34 @@ module _ (t : ℕ) where
 
   returns-2 : lts.Need-returns-2 (claims t) (numbers-in-at t) reads.Post
   returns-2 c =
-      let comma = c .before .before .before .before .place-of .ensures in
-      rw (← (numbers-last _ _ (c .before .before .before .before .before .before .before .args .text .now) comma (c .before .if2 .taken) (c .if3 .taken))) (c .before .before .number-in .ensures)
+      let comma = c .before .before .before .before in
+      let text = comma .before .before .before .args .text .now in
+      rw (← (numbers-last _ _ text (comma .place-of .ensures) (c .before .if2 .taken) (c .if3 .taken)))
+      (c .before .before .number-in .ensures)
 
   no-number-requires-2 : lts.Need-no-number-requires-2 (claims t) (numbers-in-at t) reads.Post
   no-number-requires-2 c κs = tt
 
   returns-3 : lts.Need-returns-3 (claims t) (numbers-in-at t) reads.Post
   returns-3 c =
-      let comma = c .before .before .before .before .before .place-of .ensures in
-      rw (numbers-few _ _ (c .before .before .before .before .before .before .before .before .args .text .now) comma (c .before .before .if2 .taken) (c .before .if3 .left)) (c .no-number2 .ensures)
+      let comma = c .before .before .before .before .before in
+      let text = comma .before .before .before .args .text .now in
+      rw (numbers-few _ _ text (comma .place-of .ensures) (c .before .before .if2 .taken) (c .before .if3 .left)) (c .no-number2 .ensures)
 
   add-next : lts.Need-add-next (claims t) (numbers-in-at t) reads.Post
-  add-next c = omega (arith, place-within 44 (c .before .before .before .before .before .before .args .text .now), c .before .before .before .place-of .ensures)
+  add-next c =
+      let comma = c .before .before .before in
+      omega (arith, place-within 44 (comma .before .before .before .args .text .now), comma .place-of .ensures)
 
   sub-numbers-in : lts.Need-sub-numbers-in (claims t) (numbers-in-at t) reads.Post
-  sub-numbers-in c = omega (arith, place-within 44 (c .before .before .before .before .before .before .args .text .now), c .before .before .before .place-of .ensures)
+  sub-numbers-in c =
+      let comma = c .before .before .before in
+      omega (arith, place-within 44 (comma .before .before .before .args .text .now), comma .place-of .ensures)
 
   part-numbers-in-start : lts.Need-part-numbers-in-start (claims t) (numbers-in-at t) reads.Post
-  part-numbers-in-start c = omega (arith, place-within 44 (c .before .before .before .before .before .before .args .text .now), c .before .before .before .place-of .ensures)
+  part-numbers-in-start c =
+      let comma = c .before .before .before in
+      omega (arith, place-within 44 (comma .before .before .before .args .text .now), comma .place-of .ensures)
 
   part-numbers-in-end : lts.Need-part-numbers-in-end (claims t) (numbers-in-at t) reads.Post
   part-numbers-in-end c = search needs
@@ -94,12 +103,13 @@ module _ (t : ℕ) where
 
   returns-4 : lts.Need-returns-4 (claims t) (numbers-in-at t) reads.Post
   returns-4 c =
-      let text = c .before .before .before .before .before .before .before .before .before .args .text .now in
-      let comma = c .before .before .before .before .before .before .place-of .ensures in
+      let comma = c .before .before .before .before .before .before in
+      let some = comma .before .if1 .left in
+      let text = comma .before .before .before .args .text .now in
       let first = c .before .before .before .before .number-in .ensures in
       let rest = c .before .numbers-in .ensures in
       let within = place-within 44 text in
-      c .led-by .ensures ∙ numbers-more _ _ text _ _ (c .before .before .before .before .before .before .before .if1 .left) comma (omega arith) first rest
+      c .led-by .ensures ∙ numbers-more _ _ text _ _ some (comma .place-of .ensures) (omega arith) first rest
 
 pub +numbers-in-spec : {M : Type 1} → statement M
 +numbers-in-spec =

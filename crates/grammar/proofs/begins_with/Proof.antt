@@ -1,6 +1,6 @@
 -- `grammar::begins_with` compares one byte after the other: `Texts` has the step.
 use mathlib.Core.Path.{_≡_, refl, sym, _∙_}
-use Prim.Native.Nat.{_≤_, _-_, _+_}
+use Prim.Native.Nat.{_≤_, _-_}
 use native.Mathlib.Omega.{arith}
 use lib.ListN.{length, drop}
 use Rattle.grammar.specs.Grammar.{beginsWith}

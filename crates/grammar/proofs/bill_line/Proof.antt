@@ -3,9 +3,6 @@ use Rattle.grammar.specs.Grammar.{billLine}
 use borrow.Author.Needs.{needs}
 use Rattle.grammar.proofs.bill_line.Statement.{statement}
 use Rattle.grammar.proofs.bill_line.Tie as tie
-use Rattle.grammar.proofs.bill_line.Reads as reads
-use Rattle.grammar.proofs.bill_line.Lts as lts
-use Rattle.grammar.proofs.keyed_month.Reads as keyed-month-reads
 
 slice-aggregate-keyed-month : tie.Need-slice-aggregate-keyed-month
 slice-aggregate-keyed-month c = search needs

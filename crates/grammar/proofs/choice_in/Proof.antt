@@ -1,14 +1,9 @@
 -- `grammar::choice_in` tries one word after the other, as the definition does.
-use mathlib.Core.Path.{_≡_, sym, _∙_}
+use mathlib.Core.Path.{sym, _∙_}
 use Rattle.grammar.specs.Grammar.{choiceIn}
 use borrow.Author.Needs.{needs}
 use Rattle.grammar.proofs.choice_in.Statement.{statement}
 use Rattle.grammar.proofs.choice_in.Tie as tie
-use Rattle.grammar.proofs.choice_in.Reads as reads
-use Rattle.grammar.proofs.choice_in.Lts as lts
-use Rattle.grammar.proofs.is_text.Reads as is-text-reads
-use Rattle.grammar.proofs.no_number.Reads as no-number-reads
-use Rattle.grammar.proofs.one_number.Reads as one-number-reads
 
 is-text-requires : tie.Need-is-text-requires
 is-text-requires c κs = search needs
@@ -29,7 +24,8 @@ one-number-requires-2 c κs = search needs
 returns-2 : tie.Need-returns-2
 unfolding choiceIn
 returns-2 c =
-    rw (sym (c .before .before .before .before .is-text .ensures) ∙ c .before .before .before .if1 .left, sym (c .before .before .is-text2 .ensures) ∙ c .before .if2 .taken) (c .one-number2 .ensures)
+    let first = sym (c .before .before .before .before .is-text .ensures) ∙ c .before .before .before .if1 .left in
+    rw (first, sym (c .before .before .is-text2 .ensures) ∙ c .before .if2 .taken) (c .one-number2 .ensures)
 
 no-number-requires : tie.Need-no-number-requires
 no-number-requires c κs = search needs
@@ -37,7 +33,8 @@ no-number-requires c κs = search needs
 returns-3 : tie.Need-returns-3
 unfolding choiceIn
 returns-3 c =
-    rw (sym (c .before .before .before .before .is-text .ensures) ∙ c .before .before .before .if1 .left, sym (c .before .before .is-text2 .ensures) ∙ c .before .if2 .left) (c .no-number .ensures)
+    let first = sym (c .before .before .before .before .is-text .ensures) ∙ c .before .before .before .if1 .left in
+    rw (first, sym (c .before .before .is-text2 .ensures) ∙ c .before .if2 .left) (c .no-number .ensures)
 
 pub choice-in-spec : {M : Type 1} → statement M
 choice-in-spec =

@@ -3,9 +3,6 @@ use Rattle.grammar.specs.Grammar.{criticalLine}
 use borrow.Author.Needs.{needs}
 use Rattle.grammar.proofs.critical_line.Statement.{statement}
 use Rattle.grammar.proofs.critical_line.Tie as tie
-use Rattle.grammar.proofs.critical_line.Reads as reads
-use Rattle.grammar.proofs.critical_line.Lts as lts
-use Rattle.grammar.proofs.keyed_number.Reads as keyed-number-reads
 
 slice-aggregate-keyed-number : tie.Need-slice-aggregate-keyed-number
 slice-aggregate-keyed-number c = search needs

@@ -4,9 +4,6 @@ use Rattle.grammar.specs.Grammar.{isText}
 use borrow.Author.Needs.{needs}
 use Rattle.grammar.proofs.is_text.Statement.{statement}
 use Rattle.grammar.proofs.is_text.Tie as tie
-use Rattle.grammar.proofs.is_text.Reads as reads
-use Rattle.grammar.proofs.is_text.Lts as lts
-use Rattle.grammar.proofs.begins_with.Reads as begins-with-reads
 
 returns : tie.Need-returns
 unfolding isText

@@ -5,11 +5,6 @@ use Rattle.grammar.proofs.Texts.{begins-long, keyed-yes, keyed-no}
 use borrow.Author.Needs.{needs}
 use Rattle.grammar.proofs.keyed_choice.Statement.{statement}
 use Rattle.grammar.proofs.keyed_choice.Tie as tie
-use Rattle.grammar.proofs.keyed_choice.Reads as reads
-use Rattle.grammar.proofs.keyed_choice.Lts as lts
-use Rattle.grammar.proofs.begins_with.Reads as begins-with-reads
-use Rattle.grammar.proofs.choice_in.Reads as choice-in-reads
-use Rattle.grammar.proofs.no_number.Reads as no-number-reads
 
 begins-with-requires : tie.Need-begins-with-requires
 begins-with-requires c κs = search needs
@@ -29,7 +24,8 @@ choice-in-requires c κs = search needs
 returns : tie.Need-returns
 returns c =
     let begins = sym (c .before .before .before .begins-with .ensures) ∙ c .before .before .if1 .taken in
-    rw (keyed-yes _ (choiceIn (c .before .before .before .before .before .before .before .before .args .first .now) (c .before .before .before .before .before .before .before .before .args .second .now)) _ begins) (c .choice-in .ensures)
+    let start = c .before .before .before .before .before .before .before .before in
+    rw (keyed-yes _ (choiceIn (start .args .first .now) (start .args .second .now)) _ begins) (c .choice-in .ensures)
 
 no-number-requires : tie.Need-no-number-requires
 no-number-requires c κs = search needs
@@ -37,7 +33,8 @@ no-number-requires c κs = search needs
 returns-2 : tie.Need-returns-2
 returns-2 c =
     let differs = sym (c .before .before .begins-with .ensures) ∙ c .before .if1 .left in
-    rw (keyed-no _ (choiceIn (c .before .before .before .before .before .before .before .args .first .now) (c .before .before .before .before .before .before .before .args .second .now)) _ differs) (c .no-number .ensures)
+    let start = c .before .before .before .before .before .before .before in
+    rw (keyed-no _ (choiceIn (start .args .first .now) (start .args .second .now)) _ differs) (c .no-number .ensures)
 
 pub keyed-choice-spec : {M : Type 1} → statement M
 keyed-choice-spec =

@@ -5,11 +5,6 @@ use Rattle.grammar.proofs.Texts.{begins-long, keyed-yes, keyed-no}
 use borrow.Author.Needs.{needs}
 use Rattle.grammar.proofs.keyed_number.Statement.{statement}
 use Rattle.grammar.proofs.keyed_number.Tie as tie
-use Rattle.grammar.proofs.keyed_number.Reads as reads
-use Rattle.grammar.proofs.keyed_number.Lts as lts
-use Rattle.grammar.proofs.begins_with.Reads as begins-with-reads
-use Rattle.grammar.proofs.no_number.Reads as no-number-reads
-use Rattle.grammar.proofs.number_in.Reads as number-in-reads
 
 begins-with-requires : tie.Need-begins-with-requires
 begins-with-requires c κs = search needs

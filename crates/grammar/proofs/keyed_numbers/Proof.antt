@@ -5,11 +5,6 @@ use Rattle.grammar.proofs.Texts.{begins-long, keyed-yes, keyed-no}
 use borrow.Author.Needs.{needs}
 use Rattle.grammar.proofs.keyed_numbers.Statement.{statement}
 use Rattle.grammar.proofs.keyed_numbers.Tie as tie
-use Rattle.grammar.proofs.keyed_numbers.Reads as reads
-use Rattle.grammar.proofs.keyed_numbers.Lts as lts
-use Rattle.grammar.proofs.begins_with.Reads as begins-with-reads
-use Rattle.grammar.proofs.no_number.Reads as no-number-reads
-use Rattle.grammar.proofs.numbers_in.Reads as numbers-in-reads
 
 begins-with-requires : tie.Need-begins-with-requires
 begins-with-requires c κs = search needs

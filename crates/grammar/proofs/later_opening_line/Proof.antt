@@ -4,10 +4,6 @@ use Rattle.grammar.proofs.Texts.{opening-past, next}
 use borrow.Author.Needs.{needs}
 use Rattle.grammar.proofs.later_opening_line.Statement.{statement}
 use Rattle.grammar.proofs.later_opening_line.Tie as tie
-use Rattle.grammar.proofs.later_opening_line.Reads as reads
-use Rattle.grammar.proofs.later_opening_line.Lts as lts
-use Rattle.grammar.proofs.keyed_number.Reads as keyed-number-reads
-use Rattle.grammar.proofs.no_number.Reads as no-number-reads
 
 slice-aggregate-keyed-number : tie.Need-slice-aggregate-keyed-number
 slice-aggregate-keyed-number c = search needs
@@ -84,8 +80,10 @@ returns-7 c = rw (c .before .before .match .keys7) (c .keyed-number7 .ensures)
 
 returns-8 : tie.Need-returns-8
 returns-8 c =
+    let start = c .before .before .before in
     let past = c .before .match .rest in
-    let end = next 13 (next 12 (next 11 (next 10 (next 9 (next 8 (next 7 (c .before .before .before .pre) (past .0 .0 .0 .0 .0 .0 .1)) (past .0 .0 .0 .0 .0 .1)) (past .0 .0 .0 .0 .1)) (past .0 .0 .0 .1)) (past .0 .0 .1)) (past .0 .1)) (past .1) in
+    let some = next 9 (next 8 (next 7 (start .pre) (past .0 .0 .0 .0 .0 .0 .1)) (past .0 .0 .0 .0 .0 .1)) (past .0 .0 .0 .0 .1) in
+    let end = next 13 (next 12 (next 11 (next 10 some (past .0 .0 .0 .1)) (past .0 .0 .1)) (past .0 .1)) (past .1) in
     rw (opening-past _ _ end) (c .no-number .ensures)
 
 pub later-opening-line-spec : {M : Type 1} → statement M

@@ -4,9 +4,6 @@ use Rattle.grammar.specs.Reading.{ledBy}
 use borrow.Author.Needs.{needs}
 use Rattle.grammar.proofs.led_by.Statement.{statement}
 use Rattle.grammar.proofs.led_by.Tie as tie
-use Rattle.grammar.proofs.led_by.Reads as reads
-use Rattle.grammar.proofs.led_by.Lts as lts
-use Rattle.grammar.proofs.no_number.Reads as no-number-reads
 
 no-number-requires : tie.Need-no-number-requires
 no-number-requires c κs = search needs

@@ -1,16 +1,11 @@
 -- `grammar::month_in` tests one part of a month after the other: `Months` has what each test says.
 use native.Mathlib.Omega.{arith}
 use lib.ListN.{length-take}
-use Rattle.grammar.proofs.Digits.{read-none, read-some, read-value, read-fits}
+use Rattle.grammar.proofs.Digits.{read-none, read-some, read-value}
 use Rattle.grammar.proofs.Months.{month-length, month-dash, month-year, month-of-year, month-is}
 use borrow.Author.Needs.{needs}
 use Rattle.grammar.proofs.month_in.Statement.{statement}
 use Rattle.grammar.proofs.month_in.Tie as tie
-use Rattle.grammar.proofs.month_in.Reads as reads
-use Rattle.grammar.proofs.month_in.Lts as lts
-use Rattle.grammar.proofs.month_of.Reads as month-of-reads
-use Rattle.grammar.proofs.no_number.Reads as no-number-reads
-use Rattle.grammar.proofs.number_in.Reads as number-in-reads
 
 no-number-requires : tie.Need-no-number-requires
 no-number-requires c κs = search needs
@@ -25,7 +20,9 @@ no-number-requires-2 : tie.Need-no-number-requires-2
 no-number-requires-2 c κs = search needs
 
 returns-2 : tie.Need-returns-2
-returns-2 c = rw (month-dash (c .before .before .before .before .before .args .text .now) (c .before .before .before .if1 .left) (c .before .if2 .taken)) (c .no-number2 .ensures)
+returns-2 c =
+    let start = c .before .before .before .before .before in
+    rw (month-dash (start .args .text .now) (c .before .before .before .if1 .left) (c .before .if2 .taken)) (c .no-number2 .ensures)
 
 slice-aggregate-number-in : tie.Need-slice-aggregate-number-in
 slice-aggregate-number-in c = simp length-take (omega arith)
@@ -39,7 +36,9 @@ no-number-requires-3 c κs = search needs
 returns-3 : tie.Need-returns-3
 returns-3 c =
     let not-year = read-none _ _ (c .before .before .before .number-in .ensures) (c .before .if3 .taken) in
-    rw (month-year (c .before .before .before .before .before .before .before .before .before .args .text .now) (c .before .before .before .before .before .before .before .if1 .left) (c .before .before .before .before .before .if2 .left) not-year) (c .no-number3 .ensures)
+    let dash = c .before .before .before .before .before in
+    let start = dash .before .before .before .before in
+    rw (month-year (start .args .text .now) (dash .before .before .if1 .left) (dash .if2 .left) not-year) (c .no-number3 .ensures)
 
 sub-number-in : tie.Need-sub-number-in
 sub-number-in c = search needs
@@ -58,21 +57,29 @@ no-number-requires-4 c κs = search needs
 
 returns-4 : tie.Need-returns-4
 returns-4 c =
-    let year = read-some _ _ (c .before .before .before .before .before .before .before .number-in .ensures) (c .before .before .before .before .before .if3 .left) in
+    let some = c .before .before .before .before .before in
+    let dash = some .before .before .before .before in
+    let start = dash .before .before .before .before in
+    let year = read-some _ _ (some .before .before .number-in .ensures) (some .if3 .left) in
     let not-month = read-none _ _ (c .before .before .before .number-in2 .ensures) (c .before .if4 .taken) in
-    rw (month-of-year (c .before .before .before .before .before .before .before .before .before .before .before .before .before .args .text .now) (c .before .before .before .before .before .before .before .before .before .before .before .if1 .left) (c .before .before .before .before .before .before .before .before .before .if2 .left) year not-month) (c .no-number4 .ensures)
+    rw (month-of-year (start .args .text .now) (dash .before .before .if1 .left) (dash .if2 .left) year not-month)
+    (c .no-number4 .ensures)
 
 month-of-requires : tie.Need-month-of-requires
 month-of-requires c κs = search needs
 
 returns-5 : tie.Need-returns-5
 returns-5 c =
-    let y = c .before .before .before .before .before .before .before .number-in .ensures in
+    let some = c .before .before .before .before .before in
+    let dash = some .before .before .before .before in
+    let text = dash .before .before .before .before .args .text .now in
+    let y = some .before .before .number-in .ensures in
     let m = c .before .before .before .number-in2 .ensures in
-    let some = c .before .before .before .before .before .if3 .left in
-    let more = c .before .if4 .left in
-    rw (← (month-is (c .before .before .before .before .before .before .before .before .before .before .before .before .before .args .text .now) _ _ (c .before .before .before .before .before .before .before .before .before .before .before .if1 .left) (c .before .before .before .before .before .before .before .before .before .if2 .left)
-    (read-some _ _ y some) (read-some _ _ m more) (read-value _ _ y some) (read-value _ _ m more))) (c .month-of .ensures)
+    let year = read-some _ _ y (some .if3 .left) in
+    let month = read-some _ _ m (c .before .if4 .left) in
+    let value = read-value _ _ y (some .if3 .left) in
+    let number = read-value _ _ m (c .before .if4 .left) in
+    rw (← (month-is text _ _ (dash .before .before .if1 .left) (dash .if2 .left) year month value number)) (c .month-of .ensures)
 
 pub month-in-spec : {M : Type 1} → statement M
 month-in-spec =

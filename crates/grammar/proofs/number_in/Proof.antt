@@ -1,18 +1,13 @@
 -- `grammar::number_in` reads one digit after the other: `Digits` has the step.
-use mathlib.Core.Path.{_≡_, refl, sym, _∙_}
+use mathlib.Core.Path.{_≡_, refl, _∙_}
 use Prim.Native.Nat.{_≤_, _<_, _-_, _+_, _*_, _^_}
 use native.Mathlib.Omega.{arith}
 use lib.ListN.{length, getD, drop}
-use Rattle.grammar.specs.Grammar.{allDigits, valueAfter, valueOf, numberIn}
+use Rattle.grammar.specs.Grammar.{allDigits, valueAfter, valueOf}
 use Rattle.grammar.proofs.Digits.{digits-next, digits-low, digits-high, digits-end, value-next, value-end, value-grows}
 use Rattle.grammar.proofs.Digits.{number-empty, number-long, number-no-digits, number-large, number-is}
 use Rattle.grammar.proofs.number_in.Statement.{statement}
 use Rattle.grammar.proofs.number_in.Tie as tie
-use Rattle.grammar.proofs.number_in.Reads as reads
-use Rattle.grammar.proofs.number_in.Lts as lts
-use Rattle.grammar.proofs.no_number.Reads as no-number-reads
-use Rattle.grammar.proofs.one_number.Reads as one-number-reads
-use Rattle.grammar.proofs.wide.Reads as wide-reads
 
 abbrev Inv-loop : tie.InvT-loop
 Inv-loop text value₀ place₀ value place =
@@ -80,7 +75,8 @@ returns-5 c =
     let text = c .before .before .before .before .before .before .before .before .before .before .before .args .text .now in
     let lp = c .before .before .before .before .before .before .before .loop in
     let value = lp .value * 10 + (getD text (lp .place) 0 - 48) in
-    let large : 2 ^ 32 ≤ valueOf text = omega (arith, lp .inv .3, value-next (lp .place) text (lp .value) (omega arith), value-grows value (drop (lp .place + 1) text)) in
+    let next = value-next (lp .place) text (lp .value) (omega arith) in
+    let large : 2 ^ 32 ≤ valueOf text = omega (arith, value-grows value (drop (lp .place + 1) text)) in
     rw (number-large text large) (c .no-number5 .ensures)
 
 add-place : tie.Need-add-place Inv-loop μ-loop

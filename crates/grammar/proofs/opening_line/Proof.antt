@@ -5,13 +5,6 @@ use Rattle.grammar.proofs.Texts.{next}
 use borrow.Author.Needs.{needs}
 use Rattle.grammar.proofs.opening_line.Statement.{statement}
 use Rattle.grammar.proofs.opening_line.Tie as tie
-use Rattle.grammar.proofs.opening_line.Reads as reads
-use Rattle.grammar.proofs.opening_line.Lts as lts
-use Rattle.grammar.proofs.keyed_choice.Reads as keyed-choice-reads
-use Rattle.grammar.proofs.keyed_month.Reads as keyed-month-reads
-use Rattle.grammar.proofs.keyed_number.Reads as keyed-number-reads
-use Rattle.grammar.proofs.keyed_numbers.Reads as keyed-numbers-reads
-use Rattle.grammar.proofs.later_opening_line.Reads as later-opening-line-reads
 
 slice-aggregate-keyed-month : tie.Need-slice-aggregate-keyed-month
 slice-aggregate-keyed-month c = search needs
@@ -19,29 +12,11 @@ slice-aggregate-keyed-month c = search needs
 keyed-month-requires : tie.Need-keyed-month-requires
 keyed-month-requires c κs = tt
 
-slice-aggregate-keyed-choice : tie.Need-slice-aggregate-keyed-choice
-slice-aggregate-keyed-choice c = search needs
+rider-line-requires : tie.Need-rider-line-requires
+rider-line-requires c κs = tt
 
-slice-aggregate-keyed-choice-2 : tie.Need-slice-aggregate-keyed-choice-2
-slice-aggregate-keyed-choice-2 c = search needs
-
-slice-aggregate-keyed-choice-3 : tie.Need-slice-aggregate-keyed-choice-3
-slice-aggregate-keyed-choice-3 c = search needs
-
-keyed-choice-requires : tie.Need-keyed-choice-requires
-keyed-choice-requires c κs = tt
-
-slice-aggregate-keyed-choice-4 : tie.Need-slice-aggregate-keyed-choice-4
-slice-aggregate-keyed-choice-4 c = search needs
-
-slice-aggregate-keyed-choice-5 : tie.Need-slice-aggregate-keyed-choice-5
-slice-aggregate-keyed-choice-5 c = search needs
-
-slice-aggregate-keyed-choice-6 : tie.Need-slice-aggregate-keyed-choice-6
-slice-aggregate-keyed-choice-6 c = search needs
-
-keyed-choice-requires-2 : tie.Need-keyed-choice-requires-2
-keyed-choice-requires-2 c κs = tt
+class-line-requires : tie.Need-class-line-requires
+class-line-requires c κs = tt
 
 slice-aggregate-keyed-number : tie.Need-slice-aggregate-keyed-number
 slice-aggregate-keyed-number c = search needs
@@ -55,17 +30,8 @@ slice-aggregate-keyed-number-2 c = search needs
 keyed-number-requires-2 : tie.Need-keyed-number-requires-2
 keyed-number-requires-2 c κs = tt
 
-slice-aggregate-keyed-choice-7 : tie.Need-slice-aggregate-keyed-choice-7
-slice-aggregate-keyed-choice-7 c = search needs
-
-slice-aggregate-keyed-choice-8 : tie.Need-slice-aggregate-keyed-choice-8
-slice-aggregate-keyed-choice-8 c = search needs
-
-slice-aggregate-keyed-choice-9 : tie.Need-slice-aggregate-keyed-choice-9
-slice-aggregate-keyed-choice-9 c = search needs
-
-keyed-choice-requires-3 : tie.Need-keyed-choice-requires-3
-keyed-choice-requires-3 c κs = tt
+assisted-line-requires : tie.Need-assisted-line-requires
+assisted-line-requires c κs = tt
 
 slice-aggregate-keyed-numbers : tie.Need-slice-aggregate-keyed-numbers
 slice-aggregate-keyed-numbers c = search needs
@@ -76,7 +42,8 @@ keyed-numbers-requires c κs = tt
 later-opening-line-requires : tie.Need-later-opening-line-requires
 later-opening-line-requires c κs =
     let past = c .match .rest in
-    next 6 (next 5 (next 4 (next 3 (next 2 (next 1 (next 0 (omega arith) (past .0 .0 .0 .0 .0 .0 .1)) (past .0 .0 .0 .0 .0 .1)) (past .0 .0 .0 .0 .1)) (past .0 .0 .0 .1)) (past .0 .0 .1)) (past .0 .1)) (past .1)
+    let some = next 2 (next 1 (next 0 (omega arith) (past .0 .0 .0 .0 .0 .0 .1)) (past .0 .0 .0 .0 .0 .1)) (past .0 .0 .0 .0 .1) in
+    next 6 (next 5 (next 4 (next 3 some (past .0 .0 .0 .1)) (past .0 .0 .1)) (past .0 .1)) (past .1)
 
 returns : tie.Need-returns
 unfolding openingLine
@@ -84,11 +51,11 @@ returns c = rw (c .before .before .match .keys1) (c .keyed-month .ensures)
 
 returns-2 : tie.Need-returns-2
 unfolding openingLine
-returns-2 c = rw (c .before .before .before .before .match .keys2) (c .keyed-choice .ensures)
+returns-2 c = rw (c .before .match .keys2) (c .rider-line .ensures)
 
 returns-3 : tie.Need-returns-3
 unfolding openingLine
-returns-3 c = rw (c .before .before .before .before .match .keys3) (c .keyed-choice2 .ensures)
+returns-3 c = rw (c .before .match .keys3) (c .class-line .ensures)
 
 returns-4 : tie.Need-returns-4
 unfolding openingLine
@@ -100,7 +67,7 @@ returns-5 c = rw (c .before .before .match .keys5) (c .keyed-number2 .ensures)
 
 returns-6 : tie.Need-returns-6
 unfolding openingLine
-returns-6 c = rw (c .before .before .before .before .match .keys6) (c .keyed-choice3 .ensures)
+returns-6 c = rw (c .before .match .keys6) (c .assisted-line .ensures)
 
 returns-7 : tie.Need-returns-7
 unfolding openingLine
@@ -115,22 +82,13 @@ opening-line-spec =
     (tie.spec
     slice-aggregate-keyed-month
     keyed-month-requires
-    slice-aggregate-keyed-choice
-    slice-aggregate-keyed-choice-2
-    slice-aggregate-keyed-choice-3
-    keyed-choice-requires
-    slice-aggregate-keyed-choice-4
-    slice-aggregate-keyed-choice-5
-    slice-aggregate-keyed-choice-6
-    keyed-choice-requires-2
+    rider-line-requires
+    class-line-requires
     slice-aggregate-keyed-number
     keyed-number-requires
     slice-aggregate-keyed-number-2
     keyed-number-requires-2
-    slice-aggregate-keyed-choice-7
-    slice-aggregate-keyed-choice-8
-    slice-aggregate-keyed-choice-9
-    keyed-choice-requires-3
+    assisted-line-requires
     slice-aggregate-keyed-numbers
     keyed-numbers-requires
     later-opening-line-requires

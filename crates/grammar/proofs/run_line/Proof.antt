@@ -3,9 +3,6 @@ use Rattle.grammar.specs.Grammar.{runLine}
 use borrow.Author.Needs.{needs}
 use Rattle.grammar.proofs.run_line.Statement.{statement}
 use Rattle.grammar.proofs.run_line.Tie as tie
-use Rattle.grammar.proofs.run_line.Reads as reads
-use Rattle.grammar.proofs.run_line.Lts as lts
-use Rattle.grammar.proofs.keyed_numbers.Reads as keyed-numbers-reads
 
 slice-aggregate-keyed-numbers : tie.Need-slice-aggregate-keyed-numbers
 slice-aggregate-keyed-numbers c = search needs

@@ -1,3 +1,10 @@
+-- `progress::bill_line` stops at an unreadable line.
+use mathlib.Core.Path.{_∙_, ap, sym}
+use mathlib.Core.List.{[]}
+use Rattle.grammar.specs.Grammar.{billLine}
+use Rattle.progress.specs.Statement.{printing}
+use Rattle.progress.specs.Progressing.{stateOf}
+use Rattle.progress.proofs.Lines.{quiet, ends-by, bill-no, bill-yes}
 use borrow.Author.Needs.{needs}
 use Rattle.progress.proofs.bill_line.Statement.{statement}
 use Rattle.progress.proofs.bill_line.Tie as tie
@@ -21,7 +28,10 @@ same-length c = search needs
 
 -- src/lib.rt:173:9
 returns : tie.Need-returns
-returns c = ?
+returns c = λ d e.
+    let st = c .before .before .before .before .before .before .before .before .before in
+    let s = stateOf (st .args .progress) d e in
+    ends-by _ _ _ _ _ _ _ (bill-no (billLine (st .args .line .now)) _ (c .before .before .before .before .before .before .bill-line .ensures) s (c .before .before .before .before .if1 .taken)) (c .before .before .stop-at .ensures d e)
 
 -- src/lib.rt:176:19
 begin-month-requires : tie.Need-begin-month-requires
@@ -29,7 +39,10 @@ begin-month-requires c κs = search needs
 
 -- src/lib.rt:167:1
 returns-2 : tie.Need-returns-2
-returns-2 c = ?
+returns-2 c = λ d e.
+    let st = c .before .before .before .before .before .before in
+    let s = stateOf (st .args .progress) d e in
+    quiet (st .args .out .now) (st .args .at) _ _ (bill-yes (billLine (st .args .line .now)) _ (c .before .before .before .bill-line .ensures) s (c .before .if1 .left) ∙ ap (printing []) (sym (c .begin-month .ensures d e)))
 
 pub bill-line-spec : {M : Type 1} → statement M
 bill-line-spec =

@@ -1,0 +1,63 @@
+use borrow.Author.Needs.{needs}
+use Rattle.progress.proofs.run_of.Statement.{statement}
+use Rattle.progress.proofs.run_of.Tie as tie
+use Rattle.progress.proofs.run_of.Reads as reads
+use Rattle.progress.proofs.run_of.Lts as lts
+use Rattle.progress.proofs.fill.Reads as fill-reads
+use Rattle.progress.proofs.least.Reads as least-reads
+use Rattle.progress.proofs.stop_at.Reads as stop-at-reads
+
+-- src/lib.rt:231:9
+least-requires : tie.Need-least-requires
+least-requires c κs = search needs
+
+-- src/lib.rt:232:16
+cast-more : tie.Need-cast-more
+cast-more c = search needs
+
+-- src/lib.rt:233:24
+add-if1 : tie.Need-add-if1
+add-if1 c = search needs
+
+-- src/lib.rt:234:9
+stop-at-requires : tie.Need-stop-at-requires
+stop-at-requires c κs = search needs
+
+-- src/lib.rt:234:9
+same-length : tie.Need-same-length
+same-length c = search needs
+
+-- src/lib.rt:234:9
+returns : tie.Need-returns
+returns c = ?
+
+-- src/lib.rt:236:15
+add-end : tie.Need-add-end
+add-end c = search needs
+
+-- src/lib.rt:237:5
+fill-requires : tie.Need-fill-requires
+fill-requires c κs = search needs
+
+-- src/lib.rt:238:5
+fill-requires-2 : tie.Need-fill-requires-2
+fill-requires-2 c κs = search needs
+
+-- src/lib.rt:220:1
+returns-2 : tie.Need-returns-2
+returns-2 c = ?
+
+pub run-of-spec : {M : Type 1} → statement M
+run-of-spec =
+    tie.close
+    (tie.spec
+    least-requires
+    cast-more
+    add-if1
+    stop-at-requires
+    same-length
+    returns
+    add-end
+    fill-requires
+    fill-requires-2
+    returns-2)
