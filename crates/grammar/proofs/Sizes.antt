@@ -50,7 +50,14 @@ pub number-below : Below (2 ^ 32) numberIn
 unfolding numberIn
 number-below l = one-below (2 ^ 32) (isNumber l) (valueOf l) (omega arith) (number-fits l)
 
--- A month. Its year has four digits.
+number-digits : (l : List ℕ) → isNumber l ≡ true → (length l ≤ 10) × (allDigits l ≡ true)
+unfolding isNumber
+number-digits l e =
+    let (e, _) = and-both (leb 1 (length l) && leb (length l) 10 && allDigits l) (ltb (valueOf l) (2 ^ 32)) e in
+    let (e, digits) = and-both (leb 1 (length l) && leb (length l) 10) (allDigits l) e in
+    (leb-true (length l) 10 (and-both (leb 1 (length l)) (leb (length l) 10) e .1), digits)
+
+-- A month.
 month-in-range : (l : List ℕ) → isMonth l ≡ true → monthNumber (valueOf (take 4 l)) (valueOf (drop 5 l)) < 96000
 unfolding isMonth
 month-in-range l e =

@@ -1,2 +1,3 @@
 mod Lines
+mod Runs
 pub mod Stores

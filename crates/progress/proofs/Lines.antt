@@ -21,7 +21,7 @@ use Rattle.grammar.specs.Reading.{numbersAs}
 use Rattle.printing.specs.Printing.{billText, openText, lineText}
 use Rattle.printing.specs.Writing.{hasRoom, Wrote, Put}
 use Rattle.progress.specs.Statement.{State, state, Step, printing, nextNumber, stop, opened, openingRead, begun, billRead, withCritical, criticalRead}
-use Rattle.progress.specs.Statement.{placeOfLine, withRun, runRead, monthReply, monthEnd, laterRead, dueRead, atEnd}
+use Rattle.progress.specs.Statement.{placeOfLine, withRun, runRead, monthReply, monthEnd, laterRead, counted, dueRead, lineRead, atEnd}
 use Rattle.progress.specs.Progressing.{Ends, Reads, valuesWith}
 use Rattle.grammar.proofs.Laws.{opening-count, prices-count}
 
@@ -255,3 +255,16 @@ reads-some o i s step t p j h w =
 
 pub reads-none : (o : List ℕ) (i : ℕ) (s : State) (step : Step) → hasRoom o i ≡ false → Reads o i s step s o i
 reads-none o i s step h = record { state = sym (rw h); bytes = sym (rw h); end = sym (rw h) }
+
+-- The next month begins after the one before is printed.
+pub month-begins : (o : List ℕ) (i : ℕ) (p : List ℕ) (j : ℕ) (l : List ℕ) (s t u : State) (m : ℕ)
+    → laterRead l s ≡ printing (monthEnd s .text) (begun m (monthEnd s .state)) → Ends o i (monthEnd s) t p j → u ≡ begun m t
+    → Ends o i (laterRead l s) u p j
+month-begins o i p j l s t u m e w b =
+    subst (λ (x : Step). Ends o i x u p j) (sym e) (record { state = b ∙ ap (begun m) (w .state); text = w .text })
+
+-- A line is counted before it is read.
+pub read-by : (o : List ℕ) (i : ℕ) (p : List ℕ) (j : ℕ) (l : List ℕ) (s t u : State) → u ≡ counted s → Ends o i (dueRead l u) t p j
+    → Ends o i (lineRead l s) t p j
+unfolding lineRead
+read-by o i p j l s t u e w = subst (λ (x : State). Ends o i (dueRead l x) t p j) e w

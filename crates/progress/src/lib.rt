@@ -193,14 +193,14 @@ fn critical_line(progress: Progress, line: &[u8], out: &mut [u8], at: usize) -> 
     Ended { progress: next, at }
 }
 
-// The smaller of two.
-fn least(a: usize, b: usize) -> usize
-    ensures { λ r. ⌜ r ≡ min a b ⌝ }
+// How many readings of the month a register has.
+fn readings(register: &[u32], filled: usize) -> usize
+    ensures { λ r. ⌜ r ≡ min filled (length (now (register .entry))) ⌝ }
 {
-    if a < b {
-        return a;
+    if filled < register.len() {
+        return filled;
     }
-    b
+    register.len()
 }
 
 // Stores a reading at each place from one to another.
@@ -228,7 +228,7 @@ fn run_of(
     requires { ⌜ hasRoom (now out) at ≡ true ⌝ }
     ensures { λ r. ⌜ Ends (now (out .entry)) at (runRead (numbers .first) (numbers .second) (numbers .third) (stateOf progress (now (delivered .entry)) (now (received .entry)))) (stateOf (r .progress) (now (delivered .exit)) (now (received .exit))) (now (out .exit)) (r .at) ⌝ }
 {
-    let filled = least(progress.filled, MOST_READINGS);
+    let filled = readings(delivered, progress.filled);
     let more = numbers.first as usize;
     if MOST_READINGS < filled + more {
         return stop_at(progress, out, at);
@@ -246,8 +246,8 @@ fn bill(progress: Progress, delivered: &[u32], received: &[u32]) -> BillingReply
     ensures { λ r. ⌜ r ≡ monthReply (stateOf progress (now (delivered .entry)) (now (received .entry))) ⌝ }
 {
     let account = progress.account;
-    let taken = least(progress.filled, delivered.len());
-    let given = least(progress.filled, received.len());
+    let taken = readings(delivered, progress.filled);
+    let given = readings(received, progress.filled);
     account.billing(
         progress.month,
         &delivered[..taken],

@@ -1,3 +1,6 @@
+-- `progress::later_line` reads a run, or ends the month at the next bill line.
+use Rattle.progress.specs.Progressing.{stateOf}
+use Rattle.progress.proofs.Lines.{ends-by, later-run, later-no, later-bill, month-begins}
 use borrow.Author.Needs.{needs}
 use Rattle.progress.proofs.later_line.Statement.{statement}
 use Rattle.progress.proofs.later_line.Tie as tie
@@ -24,7 +27,10 @@ same-length c = search needs
 
 -- src/lib.rt:295:9
 returns : tie.Need-returns
-returns c = ?
+returns c =
+    let st = c .before .before .before .before .before .before .before .before .before .before .before in
+    let s = stateOf (st .args .progress) (st .args .delivered .now) (st .args .received .now) in
+    ends-by _ _ _ _ _ _ _ (later-run (st .args .line .now) s _ (c .before .before .before .before .before .before .before .before .run-line .ensures) (c .before .before .before .before .before .before .if1 .taken)) (c .before .before .run-of .ensures)
 
 -- src/lib.rt:297:9
 bill-line-requires : tie.Need-bill-line-requires
@@ -40,7 +46,13 @@ same-length-2 c = search needs
 
 -- src/lib.rt:299:9
 returns-2 : tie.Need-returns-2
-returns-2 c = ?
+returns-2 c =
+    let st = c .before .before .before .before .before .before .before .before .before .before .before .before in
+    let d = st .args .delivered .now in
+    let e = st .args .received .now in
+    ends-by _ _ _ _ _ _ _
+    (later-no (st .args .line .now) (stateOf (st .args .progress) d e) _ (c .before .before .before .before .before .before .before .before .before .run-line .ensures) _ (c .before .before .before .before .before .before .bill-line .ensures) (c .before .before .before .before .before .before .before .if1 .left) (c .before .before .before .before .if2 .taken))
+    (c .before .before .stop-at .ensures d e)
 
 -- src/lib.rt:301:9
 end-month-requires : tie.Need-end-month-requires
@@ -56,7 +68,13 @@ same-length-3 c = search needs
 
 -- src/lib.rt:282:1
 returns-3 : tie.Need-returns-3
-returns-3 c = ?
+returns-3 c =
+    let st = c .before .before .before .before .before .before .before .before .before .before .before .before .before .before .before .before .before .before in
+    let d = st .args .delivered .now in
+    let e = st .args .received .now in
+    month-begins _ _ _ _ (st .args .line .now) (stateOf (st .args .progress) d e) _ _ _
+    (later-bill (st .args .line .now) (stateOf (st .args .progress) d e) _ (c .before .before .before .before .before .before .before .before .before .before .before .before .before .before .before .run-line .ensures) _ (c .before .before .before .before .before .before .before .before .before .before .before .before .bill-line .ensures) (c .before .before .before .before .before .before .before .before .before .before .before .before .before .if1 .left) (c .before .before .before .before .before .before .before .before .before .before .if2 .left))
+    (c .before .before .before .before .end-month .ensures) (c .begin-month .ensures d e)
 
 pub later-line-spec : {M : Type 1} → statement M
 later-line-spec =

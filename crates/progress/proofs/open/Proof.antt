@@ -1,3 +1,6 @@
+-- `progress::open` opens the account and prints its number.
+use Rattle.progress.specs.Progressing.{stateOf}
+use Rattle.progress.proofs.Lines.{account-opens}
 use borrow.Author.Needs.{needs}
 use Rattle.progress.proofs.open.Statement.{statement}
 use Rattle.progress.proofs.open.Tie as tie
@@ -47,7 +50,11 @@ same-length c = search needs
 
 -- src/lib.rt:113:1
 returns : tie.Need-returns
-returns c = ?
+returns c = λ d e.
+    let st = c .before .before .before .before .before .before .before .before .before .before .before .before .before in
+    account-opens (st .args .out .now) (st .args .at) _ _ (stateOf (st .args .progress) d e) (st .args .t2) _ _ _ _
+    (c .before .before .before .before .before .before .before .before .before .before .widened .ensures) (c .before .before .before .before .before .before .before .before .terms-at .ensures) (c .before .before .before .before .before .before .prices-at .ensures) (c .before .before .before .before .before .opening .ensures) (st .pre)
+    (c .before .before .put-open .ensures)
 
 pub open-spec : {M : Type 1} → statement M
 open-spec =

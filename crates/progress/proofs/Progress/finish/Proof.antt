@@ -1,3 +1,9 @@
+-- `progress::Progress::finish` asks what is due in the order of the definition.
+use mathlib.Core.Path.{sym, _∙_, ap}
+use Rattle.printing.specs.Printing.{lineText}
+use Rattle.progress.specs.Statement.{atEnd}
+use Rattle.progress.specs.Progressing.{stateOf}
+use Rattle.progress.proofs.Lines.{put-nothing, puts-by, end-opened, end-stopped, end-month, end-absent}
 use borrow.Author.Needs.{needs}
 use Rattle.progress.proofs.Progress.finish.Statement.{statement}
 use Rattle.progress.proofs.Progress.finish.Tie as tie
@@ -10,11 +16,17 @@ use Rattle.progress.proofs.next_number.Reads as next-number-reads
 
 -- src/lib.rt:383:13
 returns : tie.Need-returns
-returns c = ?
+returns c =
+    let st = c .before .before .before .before .before in
+    let s = stateOf (st .args .self) (st .args .delivered .now) (st .args .received .now) in
+    put-nothing (st .args .out .now) (st .args .at) (atEnd s) (end-opened s (c .if1 .taken))
 
 -- src/lib.rt:386:13
 returns-2 : tie.Need-returns-2
-returns-2 c = ?
+returns-2 c =
+    let st = c .before .before .before .before .before .before .before in
+    let s = stateOf (st .args .self) (st .args .delivered .now) (st .args .received .now) in
+    put-nothing (st .args .out .now) (st .args .at) (atEnd s) (end-stopped s (c .before .before .if1 .left) (c .if2 .taken))
 
 -- src/lib.rt:389:17
 bill-requires : tie.Need-bill-requires
@@ -30,7 +42,10 @@ same-length c = search needs
 
 -- src/lib.rt:391:13
 returns-3 : tie.Need-returns-3
-returns-3 c = ?
+returns-3 c =
+    let st = c .before .before .before .before .before .before .before .before .before .before .before .before .before .before .before in
+    let s = stateOf (st .args .self) (st .args .delivered .now) (st .args .received .now) in
+    puts-by _ _ _ _ _ _ (end-month s _ (c .before .before .before .before .before .bill .ensures) (c .before .before .before .before .before .before .before .before .before .before .if1 .left) (c .before .before .before .before .before .before .before .before .if2 .left) (c .before .before .before .before .before .before .if3 .taken)) (c .before .before .put-bill .ensures)
 
 -- src/lib.rt:393:37
 next-number-requires : tie.Need-next-number-requires
@@ -46,7 +61,12 @@ same-length-2 c = search needs
 
 -- src/lib.rt:379:5
 returns-4 : tie.Need-returns-4
-returns-4 c = ?
+returns-4 c =
+    let st = c .before .before .before .before .before .before .before .before .before .before .before .before .before .before in
+    let s = stateOf (st .args .self) (st .args .delivered .now) (st .args .received .now) in
+    puts-by _ _ _ _ _ _
+    (end-absent s (c .before .before .before .before .before .before .before .before .before .if1 .left) (c .before .before .before .before .before .before .before .if2 .left) (c .before .before .before .before .before .if3 .left) ∙ ap lineText (sym (c .before .before .before .next-number .ensures)))
+    (c .before .before .put-line .ensures)
 
 pub finish-spec : {M : Type 1} → statement M
 finish-spec =
