@@ -1,0 +1,3 @@
+mod Lines
+mod Runs
+pub mod Stores

@@ -1,0 +1,270 @@
+-- What lines change, over plain values: each law says what a definition gives where a test holds or fails.
+use mathlib.Core.Path.{_≡_, refl, sym, _∙_, ap, subst}
+use mathlib.Core.Logic.{⊎-elim}
+use mathlib.Core.Bool.{Bool, true, false, cond, not, _||_}
+use mathlib.Core.List.{List, [], _∷_, _++_}
+use Prim.Native.Nat.{ℕ, suc, _+_, _≤_, _<_, min}
+use native.Mathlib.Omega.{arith}
+use borrow.Author.Tests.{leb-true, leb-false, eqb-true, eqb-false, lt-ltb, le-ltb, eq-eqb, ne-eqb}
+use lib.Dec.{eqb, leb, ltb}
+use lib.ListN.{length, getD, take, length-take}
+use lib.Seq.{take-all, sets}
+use Rattle.tariff.specs.declared.Terms.{Terms}
+use Rattle.tariff.specs.declared.PriceList.{PriceList}
+use Rattle.account.specs.declared.Reply.{Reply}
+use Rattle.account.specs.Account.{openingReply}
+use Rattle.records.specs.Records.{termsAt, pricesAt}
+use Rattle.account.specs.declared.BillingReply.{BillingReply}
+use Rattle.grammar.specs.declared.Numbers.{Numbers}
+use Rattle.grammar.specs.Grammar.{openingLine, billLine, criticalLine, runLine}
+use Rattle.grammar.specs.Reading.{numbersAs}
+use Rattle.printing.specs.Printing.{billText, openText, lineText}
+use Rattle.printing.specs.Writing.{hasRoom, Wrote, Put}
+use Rattle.progress.specs.Statement.{State, state, Step, printing, nextNumber, stop, opened, openingRead, begun, billRead, withCritical, criticalRead}
+use Rattle.progress.specs.Statement.{placeOfLine, withRun, runRead, monthReply, monthEnd, laterRead, counted, dueRead, lineRead, atEnd}
+use Rattle.progress.specs.Progressing.{Ends, Reads, valuesWith}
+use Rattle.grammar.proofs.Laws.{opening-count, prices-count}
+
+-- As many readings as there are.
+pub least-long : (l : List ℕ) (n r : ℕ) → r ≡ min n (length l) → r ≡ length (take r l)
+least-long l n r e = omega (arith, length-take r l, e)
+
+taken-by : (l : List ℕ) (n r : ℕ) → r ≡ min n (length l) → (b : Bool) → leb n (length l) ≡ b → take r l ≡ take n l
+taken-by l n r e true q =
+    let same : r ≡ n = omega (arith, e, leb-true n (length l) q) in
+    ap (λ (k : ℕ). take k l) same
+taken-by l n r e false q =
+    let all : length l ≤ r = omega (arith, e, leb-false n (length l) q) in
+    let more : length l ≤ n = omega (arith, leb-false n (length l) q) in
+    take-all r l all ∙ sym (take-all n l more)
+
+pub least-taken : (l : List ℕ) (n r : ℕ) → r ≡ min n (length l) → take r l ≡ take n l
+least-taken l n r e = taken-by l n r e (leb n (length l)) refl
+
+-- A text that has room is written; a line without one writes nothing.
+pub puts : (o : List ℕ) (i : ℕ) (t p : List ℕ) (j : ℕ) → hasRoom o i ≡ true → Put o i t p j → Wrote o i t p j
+puts o i t p j h w = record { bytes = w .bytes ∙ rw h; end = w .end ∙ rw h }
+
+pub quiet : (o : List ℕ) (i : ℕ) (step : Step) (t : State) → step ≡ printing [] t → Ends o i step t o i
+quiet o i step t e =
+    subst (λ (x : Step). Ends o i x t o i) (sym e) (record { state = refl; text = record { bytes = refl; end = omega arith } })
+
+pub ends-by : (o : List ℕ) (i : ℕ) (step other : Step) (t : State) (p : List ℕ) (j : ℕ) → step ≡ other → Ends o i other t p j
+    → Ends o i step t p j
+ends-by o i step other t p j e w = subst (λ (x : Step). Ends o i x t p j) (sym e) w
+
+cond-same : (b : Bool) (A : Type 0) (a : A) → cond b a a ≡ a
+cond-same true A a = refl
+cond-same false A a = refl
+
+pub put-nothing : (o : List ℕ) (i : ℕ) (text : List ℕ) → text ≡ [] → Put o i text o i
+put-nothing o i text e =
+    let end : i + 0 ≡ i = omega arith in
+    subst (λ (t : List ℕ). Put o i t o i) (sym e)
+    (record {
+      bytes = sym (cond-same (hasRoom o i) (List ℕ) o);
+      end = sym (ap (λ (k : ℕ). cond (hasRoom o i) k i) end ∙ cond-same (hasRoom o i) ℕ i);
+    })
+
+pub puts-by : (o : List ℕ) (i : ℕ) (text other p : List ℕ) (j : ℕ) → text ≡ other → Put o i other p j → Put o i text p j
+puts-by o i text other p j e w = subst (λ (t : List ℕ). Put o i t p j) (sym e) w
+
+-- A line gives no numbers just where none were read.
+none-read : (v : List ℕ) (x : Numbers) → x ≡ numbersAs v → x .count ≡ 0 → eqb (length v) 0 ≡ true
+none-read v x e h = eq-eqb (length v) 0 (sym (ap (λ (y : Numbers). y .count) e) ∙ h)
+
+some-read : (v : List ℕ) (x : Numbers) → x ≡ numbersAs v → (x .count ≡ 0 → ⊥) → eqb (length v) 0 ≡ false
+some-read v x e h = ne-eqb (length v) 0 (λ q. h (ap (λ (y : Numbers). y .count) e ∙ q))
+
+module _ (v : List ℕ) (x : Numbers) (e : x ≡ numbersAs v) (s : State) where
+  pub bill-no : x .count ≡ 0 → billRead v s ≡ stop s
+  unfolding billRead
+  bill-no h = rw (none-read v x e h)
+
+  pub bill-yes : (x .count ≡ 0 → ⊥) → billRead v s ≡ printing [] (begun (x .first) s)
+  unfolding billRead
+  bill-yes h = rw (some-read v x e h) (ap (λ (y : Numbers). printing [] (begun (y .first) s)) (sym e))
+
+  pub critical-no : x .count ≡ 0 → criticalRead v s ≡ stop s
+  unfolding criticalRead
+  critical-no h = rw (none-read v x e h)
+
+  pub critical-yes : (x .count ≡ 0 → ⊥) → criticalRead v s ≡ printing [] (withCritical (x .first) s)
+  unfolding criticalRead
+  critical-yes h = rw (some-read v x e h) (ap (λ (y : Numbers). printing [] (withCritical (y .first) s)) (sym e))
+
+  pub opening-no : x .count ≡ 0 → openingRead v s ≡ stop s
+  unfolding openingRead
+  opening-no h = rw (none-read v x e h)
+
+  pub opening-more : (x .count ≡ 0 → ⊥) → s .due < 13
+      → openingRead v s ≡ printing [] (state (s .number) (s .due + 1) (sets (s .values) (placeOfLine (s .due)) v) (s .account) (s .entered))
+  unfolding openingRead
+  opening-more h k = rw (some-read v x e h, lt-ltb (s .due) 13 k)
+
+  pub opening-last : (x .count ≡ 0 → ⊥) → 13 ≤ s .due → openingRead v s ≡ opened (sets (s .values) (placeOfLine (s .due)) v) s
+  unfolding openingRead
+  opening-last h k = rw (some-read v x e h, le-ltb (s .due) 13 k)
+
+-- A line after the critical line.
+module _ (l : List ℕ) (s : State) (x : Numbers) (e : x ≡ numbersAs (runLine l)) where
+  pub later-run : (x .count ≡ 0 → ⊥) → laterRead l s ≡ runRead (x .first) (x .second) (x .third) s
+  unfolding laterRead
+  later-run h =
+      rw (some-read (runLine l) x e h) (ap (λ (y : Numbers). runRead (y .first) (y .second) (y .third) s) (sym e))
+
+  pub later-no : (y : Numbers) → y ≡ numbersAs (billLine l) → x .count ≡ 0 → y .count ≡ 0 → laterRead l s ≡ stop s
+  unfolding laterRead
+  later-no y f h k = rw (none-read (runLine l) x e h, none-read (billLine l) y f k)
+
+  pub later-bill : (y : Numbers) → y ≡ numbersAs (billLine l) → x .count ≡ 0 → (y .count ≡ 0 → ⊥)
+      → laterRead l s ≡ printing (monthEnd s .text) (begun (y .first) (monthEnd s .state))
+  unfolding laterRead
+  later-bill y f h k =
+      rw (none-read (runLine l) x e h, some-read (billLine l) y f k)
+      (ap (λ (z : Numbers). printing (monthEnd s .text) (begun (z .first) (monthEnd s .state))) (sym f))
+
+-- A run past the most readings, and one that fits.
+pub run-no : (count d e : ℕ) (s : State) → 2976 < length (s .entered .delivered) + count → runRead count d e s ≡ stop s
+unfolding runRead
+run-no count d e s h = rw (lt-ltb 2976 (length (s .entered .delivered) + count) h)
+
+pub run-yes : (count d e : ℕ) (s : State) → length (s .entered .delivered) + count ≤ 2976
+    → runRead count d e s ≡ printing [] (withRun count d e s)
+unfolding runRead
+run-yes count d e s h = rw (le-ltb 2976 (length (s .entered .delivered) + count) h)
+
+-- What is due decides.
+module _ (l : List ℕ) (s : State) where
+  pub due-opening : s .due < 14 → dueRead l s ≡ openingRead (openingLine (s .due) l) s
+  unfolding dueRead
+  due-opening h = rw (lt-ltb (s .due) 14 h)
+
+  pub due-bill : 14 ≤ s .due → s .due ≡ 14 → dueRead l s ≡ billRead (billLine l) s
+  unfolding dueRead
+  due-bill h e = rw (le-ltb (s .due) 14 h, eq-eqb (s .due) 14 e)
+
+  pub due-critical : 14 ≤ s .due → (s .due ≡ 14 → ⊥) → s .due ≡ 15 → dueRead l s ≡ criticalRead (criticalLine l) s
+  unfolding dueRead
+  due-critical h n e = rw (le-ltb (s .due) 14 h, ne-eqb (s .due) 14 n, eq-eqb (s .due) 15 e)
+
+  pub due-later : 14 ≤ s .due → (s .due ≡ 14 → ⊥) → (s .due ≡ 15 → ⊥) → s .due ≡ 16 → dueRead l s ≡ laterRead l s
+  unfolding dueRead
+  due-later h n m e = rw (le-ltb (s .due) 14 h, ne-eqb (s .due) 14 n, ne-eqb (s .due) 15 m, eq-eqb (s .due) 16 e)
+
+  pub due-none : 14 ≤ s .due → (s .due ≡ 14 → ⊥) → (s .due ≡ 15 → ⊥) → (s .due ≡ 16 → ⊥) → dueRead l s ≡ printing [] s
+  unfolding dueRead
+  due-none h n m k = rw (le-ltb (s .due) 14 h, ne-eqb (s .due) 14 n, ne-eqb (s .due) 15 m, ne-eqb (s .due) 16 k)
+
+-- The end of the input.
+module _ (s : State) where
+  pub end-opened : s .due ≡ 14 → atEnd s ≡ []
+  unfolding atEnd
+  end-opened e = rw (eq-eqb (s .due) 14 e)
+
+  pub end-stopped : (s .due ≡ 14 → ⊥) → 16 < s .due → atEnd s ≡ []
+  unfolding atEnd
+  end-stopped n h = rw (ne-eqb (s .due) 14 n, lt-ltb 16 (s .due) h)
+
+  pub end-month : (r : BillingReply) → r ≡ monthReply s → (s .due ≡ 14 → ⊥) → s .due ≤ 16 → s .due ≡ 16
+      → atEnd s ≡ billText (s .entered .month) (r .number) (r .bill)
+  unfolding atEnd monthEnd
+  end-month r e n h k =
+      rw (ne-eqb (s .due) 14 n, le-ltb 16 (s .due) h, eq-eqb (s .due) 16 k)
+      (ap (λ (q : BillingReply). billText (s .entered .month) (q .number) (q .bill)) (sym e))
+
+  pub end-absent : (s .due ≡ 14 → ⊥) → s .due ≤ 16 → (s .due ≡ 16 → ⊥) → atEnd s ≡ lineText (nextNumber (s .number))
+  unfolding atEnd
+  end-absent n h k = rw (ne-eqb (s .due) 14 n, le-ltb 16 (s .due) h, ne-eqb (s .due) 16 k)
+
+-- A month that is complete.
+pub month-ends : (o : List ℕ) (i : ℕ) (p : List ℕ) (j : ℕ) (s : State) (r : BillingReply) → r ≡ monthReply s → hasRoom o i ≡ true
+    → Put o i (billText (s .entered .month) (r .number) (r .bill)) p j
+    → Ends o i (monthEnd s) (state (s .number) (s .due) (s .values) (r .account) (s .entered)) p j
+unfolding monthEnd
+month-ends o i p j s r e h w =
+    record {
+      state = ap (λ (q : BillingReply). state (s .number) (s .due) (s .values) (q .account) (s .entered)) e;
+      text =
+          puts o i (billText (s .entered .month) (monthReply s .number) (monthReply s .bill)) p j h
+          (subst (λ (q : BillingReply). Put o i (billText (s .entered .month) (q .number) (q .bill)) p j) e w);
+    }
+
+-- The account is opened.
+pub account-opens : (o : List ℕ) (i : ℕ) (p : List ℕ) (j : ℕ) (s : State) (xs wide : List ℕ) (t : Terms) (l : PriceList) (r : Reply)
+    → wide ≡ xs → t ≡ termsAt wide → l ≡ pricesAt wide → r ≡ openingReply (s .account) t l (getD xs 0 0) → hasRoom o i ≡ true
+    → Put o i (openText (r .number)) p j → Ends o i (opened xs s) (state (s .number) 14 xs (r .account) (s .entered)) p j
+unfolding opened
+account-opens o i p j s xs wide t l r ew et el er h w =
+    let q : r ≡ openingReply (s .account) (termsAt xs) (pricesAt xs) (getD xs 0 0) = er ∙ rw (et, el, ew) in
+    record {
+      state = ap (λ (y : Reply). state (s .number) 14 xs (y .account) (s .entered)) q;
+      text = puts o i (openText (openingReply (s .account) (termsAt xs) (pricesAt xs) (getD xs 0 0) .number)) p j h (subst (λ (y : Reply). Put o i (openText (y .number)) p j) q w);
+    }
+
+-- A list of one number, or of four.
+one-is : (v : List ℕ) → length v ≡ 1 → getD v 0 0 ∷ [] ≡ v
+one-is [] h = absurd (omega (arith, h))
+one-is (x ∷ []) h = refl
+one-is (x ∷ y ∷ v) h = absurd (omega (arith, h))
+
+four-is : (v : List ℕ) → length v ≡ 4 → getD v 0 0 ∷ getD v 1 0 ∷ getD v 2 0 ∷ getD v 3 0 ∷ [] ≡ v
+four-is [] h = absurd (omega (arith, h))
+four-is (x ∷ []) h = absurd (omega (arith, h))
+four-is (x ∷ y ∷ []) h = absurd (omega (arith, h))
+four-is (x ∷ y ∷ z ∷ []) h = absurd (omega (arith, h))
+four-is (x ∷ y ∷ z ∷ w ∷ []) h = refl
+four-is (x ∷ y ∷ z ∷ w ∷ u ∷ v) h = absurd (omega (arith, h))
+
+-- The numbers of a line of the opening are put where the definition puts them.
+values-six : (xs l : List ℕ) (x : Numbers) → x ≡ numbersAs (openingLine 6 l) → (x .count ≡ 0 → ⊥)
+    → valuesWith xs 6 x ≡ sets xs (placeOfLine 6) (openingLine 6 l)
+unfolding valuesWith
+values-six xs l x e h =
+    let n : x .count ≡ length (openingLine 6 l) = ap (λ (y : Numbers). y .count) e in
+    let four : length (openingLine 6 l) ≡ 4 = ⊎-elim (λ q. absurd (h (n ∙ q))) (λ q. q) (prices-count l) in
+    ap (λ (y : Numbers). sets xs 6 (y .first ∷ y .second ∷ y .third ∷ y .fourth ∷ [])) e ∙ ap (sets xs 6) (four-is (openingLine 6 l) four)
+
+values-one : (xs : List ℕ) (k : ℕ) (l : List ℕ) (x : Numbers) → (k ≡ 6 → ⊥) → x ≡ numbersAs (openingLine k l) → (x .count ≡ 0 → ⊥)
+    → valuesWith xs k x ≡ sets xs (placeOfLine k) (openingLine k l)
+unfolding valuesWith
+values-one xs k l x m e h =
+    let n : x .count ≡ length (openingLine k l) = ap (λ (y : Numbers). y .count) e in
+    let some : length (openingLine k l) ≡ 0 → ⊥ = λ q. h (n ∙ q) in
+    let one : length (openingLine k l) ≡ 1 = omega (arith, opening-count k l m, some) in
+    rw (ne-eqb k 6 m)
+    (ap (λ (y : Numbers). sets xs (placeOfLine k) (y .first ∷ [])) e ∙ ap (sets xs (placeOfLine k)) (one-is (openingLine k l) one))
+
+values-by : (xs : List ℕ) (k : ℕ) (l : List ℕ) (x : Numbers) → x ≡ numbersAs (openingLine k l) → (x .count ≡ 0 → ⊥)
+    → (b : Bool) → eqb k 6 ≡ b → valuesWith xs k x ≡ sets xs (placeOfLine k) (openingLine k l)
+values-by xs k l x e h true q =
+    let six : k ≡ 6 = eqb-true k 6 q in
+    subst (λ (n : ℕ). x ≡ numbersAs (openingLine n l) → valuesWith xs n x ≡ sets xs (placeOfLine n) (openingLine n l)) (sym six)
+    (λ f. values-six xs l x f h) e
+values-by xs k l x e h false q = values-one xs k l x (eqb-false k 6 q) e h
+
+pub values-are : (xs : List ℕ) (k : ℕ) (l : List ℕ) (x : Numbers) → x ≡ numbersAs (openingLine k l) → (x .count ≡ 0 → ⊥)
+    → valuesWith xs k x ≡ sets xs (placeOfLine k) (openingLine k l)
+values-are xs k l x e h = values-by xs k l x e h (eqb k 6) refl
+
+-- Where a text fits, a line is read.
+pub reads-some : (o : List ℕ) (i : ℕ) (s : State) (step : Step) (t : State) (p : List ℕ) (j : ℕ) → hasRoom o i ≡ true
+    → Ends o i step t p j → Reads o i s step t p j
+reads-some o i s step t p j h w =
+    record { state = w .state ∙ sym (rw h); bytes = w .text .bytes ∙ sym (rw h); end = w .text .end ∙ sym (rw h) }
+
+pub reads-none : (o : List ℕ) (i : ℕ) (s : State) (step : Step) → hasRoom o i ≡ false → Reads o i s step s o i
+reads-none o i s step h = record { state = sym (rw h); bytes = sym (rw h); end = sym (rw h) }
+
+-- The next month begins after the one before is printed.
+pub month-begins : (o : List ℕ) (i : ℕ) (p : List ℕ) (j : ℕ) (l : List ℕ) (s t u : State) (m : ℕ)
+    → laterRead l s ≡ printing (monthEnd s .text) (begun m (monthEnd s .state)) → Ends o i (monthEnd s) t p j → u ≡ begun m t
+    → Ends o i (laterRead l s) u p j
+month-begins o i p j l s t u m e w b =
+    subst (λ (x : Step). Ends o i x u p j) (sym e) (record { state = b ∙ ap (begun m) (w .state); text = w .text })
+
+-- A line is counted before it is read.
+pub read-by : (o : List ℕ) (i : ℕ) (p : List ℕ) (j : ℕ) (l : List ℕ) (s t u : State) → u ≡ counted s → Ends o i (dueRead l u) t p j
+    → Ends o i (lineRead l s) t p j
+unfolding lineRead
+read-by o i p j l s t u e w = subst (λ (x : State). Ends o i (dueRead l x) t p j) e w

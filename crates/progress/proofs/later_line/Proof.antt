@@ -1,0 +1,94 @@
+-- `progress::later_line` reads a run, or ends the month at the next bill line.
+use Rattle.progress.specs.Progressing.{stateOf}
+use Rattle.progress.proofs.Lines.{ends-by, later-run, later-no, later-bill, month-begins}
+use borrow.Author.Needs.{needs}
+use Rattle.progress.proofs.later_line.Statement.{statement}
+use Rattle.progress.proofs.later_line.Tie as tie
+use Rattle.progress.proofs.later_line.Reads as reads
+use Rattle.progress.proofs.later_line.Lts as lts
+use Rattle.grammar.proofs.bill_line.Reads as bill-line-reads
+use Rattle.grammar.proofs.run_line.Reads as run-line-reads
+use Rattle.progress.proofs.begin_month.Reads as begin-month-reads
+use Rattle.progress.proofs.end_month.Reads as end-month-reads
+use Rattle.progress.proofs.run_of.Reads as run-of-reads
+use Rattle.progress.proofs.stop_at.Reads as stop-at-reads
+
+-- src/lib.rt:293:9
+run-line-requires : tie.Need-run-line-requires
+run-line-requires c κs = search needs
+
+-- src/lib.rt:295:9
+run-of-requires : tie.Need-run-of-requires
+run-of-requires c κs = search needs
+
+-- src/lib.rt:295:9
+same-length : tie.Need-same-length
+same-length c = search needs
+
+-- src/lib.rt:295:9
+returns : tie.Need-returns
+returns c =
+    let st = c .before .before .before .before .before .before .before .before .before .before .before in
+    let s = stateOf (st .args .progress) (st .args .delivered .now) (st .args .received .now) in
+    ends-by _ _ _ _ _ _ _ (later-run (st .args .line .now) s _ (c .before .before .before .before .before .before .before .before .run-line .ensures) (c .before .before .before .before .before .before .if1 .taken)) (c .before .before .run-of .ensures)
+
+-- src/lib.rt:297:9
+bill-line-requires : tie.Need-bill-line-requires
+bill-line-requires c κs = search needs
+
+-- src/lib.rt:299:9
+stop-at-requires : tie.Need-stop-at-requires
+stop-at-requires c κs = search needs
+
+-- src/lib.rt:299:9
+same-length-2 : tie.Need-same-length-2
+same-length-2 c = search needs
+
+-- src/lib.rt:299:9
+returns-2 : tie.Need-returns-2
+returns-2 c =
+    let st = c .before .before .before .before .before .before .before .before .before .before .before .before in
+    let d = st .args .delivered .now in
+    let e = st .args .received .now in
+    ends-by _ _ _ _ _ _ _
+    (later-no (st .args .line .now) (stateOf (st .args .progress) d e) _ (c .before .before .before .before .before .before .before .before .before .run-line .ensures) _ (c .before .before .before .before .before .before .bill-line .ensures) (c .before .before .before .before .before .before .before .if1 .left) (c .before .before .before .before .if2 .taken))
+    (c .before .before .stop-at .ensures d e)
+
+-- src/lib.rt:301:9
+end-month-requires : tie.Need-end-month-requires
+end-month-requires c κs = search needs
+
+-- src/lib.rt:304:19
+begin-month-requires : tie.Need-begin-month-requires
+begin-month-requires c κs = search needs
+
+-- src/lib.rt:282:1
+same-length-3 : tie.Need-same-length-3
+same-length-3 c = search needs
+
+-- src/lib.rt:282:1
+returns-3 : tie.Need-returns-3
+returns-3 c =
+    let st = c .before .before .before .before .before .before .before .before .before .before .before .before .before .before .before .before .before .before in
+    let d = st .args .delivered .now in
+    let e = st .args .received .now in
+    month-begins _ _ _ _ (st .args .line .now) (stateOf (st .args .progress) d e) _ _ _
+    (later-bill (st .args .line .now) (stateOf (st .args .progress) d e) _ (c .before .before .before .before .before .before .before .before .before .before .before .before .before .before .before .run-line .ensures) _ (c .before .before .before .before .before .before .before .before .before .before .before .before .bill-line .ensures) (c .before .before .before .before .before .before .before .before .before .before .before .before .before .if1 .left) (c .before .before .before .before .before .before .before .before .before .before .if2 .left))
+    (c .before .before .before .before .end-month .ensures) (c .begin-month .ensures d e)
+
+pub later-line-spec : {M : Type 1} → statement M
+later-line-spec =
+    tie.close
+    (tie.spec
+    run-line-requires
+    run-of-requires
+    same-length
+    returns
+    bill-line-requires
+    stop-at-requires
+    same-length-2
+    returns-2
+    end-month-requires
+    begin-month-requires
+    same-length-3
+    returns-3)

@@ -1,0 +1,93 @@
+-- `progress::opening_line` stops at an unreadable line, and opens the account after the fourteenth.
+use mathlib.Core.Path.{_∙_, ap, sym}
+use mathlib.Core.List.{List, []}
+use Prim.Native.Nat.{ℕ, _+_}
+use Rattle.grammar.specs.Grammar.{openingLine}
+use Rattle.progress.specs.Statement.{state, printing, opened}
+use Rattle.progress.specs.Progressing.{stateOf}
+use Rattle.progress.proofs.Lines.{quiet, ends-by, opening-no, opening-more, opening-last, values-are}
+use borrow.Author.Needs.{needs}
+use Rattle.progress.proofs.opening_line.Statement.{statement}
+use Rattle.progress.proofs.opening_line.Tie as tie
+use Rattle.progress.proofs.opening_line.Reads as reads
+use Rattle.progress.proofs.opening_line.Lts as lts
+use Rattle.grammar.proofs.opening_line.Reads as opening-line-reads
+use Rattle.progress.proofs.open.Reads as open-reads
+use Rattle.progress.proofs.stop_at.Reads as stop-at-reads
+use Rattle.progress.proofs.with_values.Reads as with-values-reads
+
+-- src/lib.rt:140:9
+opening-line-requires : tie.Need-opening-line-requires
+opening-line-requires c κs = search needs
+
+-- src/lib.rt:142:9
+stop-at-requires : tie.Need-stop-at-requires
+stop-at-requires c κs = search needs
+
+-- src/lib.rt:142:9
+same-length : tie.Need-same-length
+same-length c = search needs
+
+-- src/lib.rt:142:9
+returns : tie.Need-returns
+returns c = λ d e.
+    let st = c .before .before .before .before .before .before .before .before .before in
+    let v = openingLine (st .args .progress .due) (st .args .line .now) in
+    ends-by _ _ _ _ _ _ _ (opening-no v _ (c .before .before .before .before .before .before .opening-line .ensures) (stateOf (st .args .progress) d e) (c .before .before .before .before .if1 .taken)) (c .before .before .stop-at .ensures d e)
+
+-- src/lib.rt:145:9
+with-values-requires : tie.Need-with-values-requires
+with-values-requires c κs = search needs
+
+-- src/lib.rt:148:20
+add-next : tie.Need-add-next
+add-next c = search needs
+
+-- src/lib.rt:150:9
+returns-2 : tie.Need-returns-2
+returns-2 c = λ d e.
+    let st = c .before .before .before .before .before .before .before .before in
+    let s = stateOf (st .args .progress) d e in
+    let l = st .args .line .now in
+    let read = c .before .before .before .before .before .opening-line .ensures in
+    let some = c .before .before .before .if1 .left in
+    let values = c .before .with-values .ensures ∙ values-are (s .values) (s .due) l _ read some in
+    quiet (st .args .out .now) (st .args .at) _ _
+    (opening-more (openingLine (s .due) l) _ read s some (c .if2 .taken)
+    ∙ ap (λ (xs : List ℕ). printing [] (state (s .number) (s .due + 1) xs (s .account) (s .entered))) (sym values))
+
+-- src/lib.rt:152:5
+open-requires : tie.Need-open-requires
+open-requires c κs = search needs
+
+-- src/lib.rt:134:1
+same-length-2 : tie.Need-same-length-2
+same-length-2 c = search needs
+
+-- src/lib.rt:134:1
+returns-3 : tie.Need-returns-3
+returns-3 c = λ d e.
+    let st = c .before .before .before .before .before .before .before .before .before .before .before .before in
+    let s = stateOf (st .args .progress) d e in
+    let l = st .args .line .now in
+    let read = c .before .before .before .before .before .before .before .before .before .opening-line .ensures in
+    let some = c .before .before .before .before .before .before .before .if1 .left in
+    let values = c .before .before .before .before .before .with-values .ensures ∙ values-are (s .values) (s .due) l _ read some in
+    ends-by _ _ _ _ _ _ _
+    (opening-last (openingLine (s .due) l) _ read s some (c .before .before .before .before .if2 .left) ∙ ap (λ (xs : List ℕ). opened xs s) (sym values))
+    (c .before .before .«open» .ensures d e)
+
+pub opening-line-spec : {M : Type 1} → statement M
+opening-line-spec =
+    tie.close
+    (tie.spec
+    opening-line-requires
+    stop-at-requires
+    same-length
+    returns
+    with-values-requires
+    add-next
+    returns-2
+    open-requires
+    same-length-2
+    returns-3)

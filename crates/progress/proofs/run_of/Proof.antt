@@ -1,0 +1,76 @@
+-- `progress::run_of` stops at a run past the most readings: `Runs` has both cases.
+use Rattle.progress.specs.Progressing.{stateOf}
+use Rattle.progress.proofs.Lines.{quiet, ends-by}
+use Rattle.progress.proofs.Runs.{run-past, run-fits}
+use borrow.Author.Needs.{needs}
+use Rattle.progress.proofs.run_of.Statement.{statement}
+use Rattle.progress.proofs.run_of.Tie as tie
+use Rattle.progress.proofs.run_of.Reads as reads
+use Rattle.progress.proofs.run_of.Lts as lts
+use Rattle.progress.proofs.fill.Reads as fill-reads
+use Rattle.progress.proofs.readings.Reads as readings-reads
+use Rattle.progress.proofs.stop_at.Reads as stop-at-reads
+
+-- src/lib.rt:231:9
+readings-requires : tie.Need-readings-requires
+readings-requires c κs = search needs
+
+-- src/lib.rt:232:16
+cast-more : tie.Need-cast-more
+cast-more c = search needs
+
+-- src/lib.rt:233:24
+add-if1 : tie.Need-add-if1
+add-if1 c = search needs
+
+-- src/lib.rt:234:9
+stop-at-requires : tie.Need-stop-at-requires
+stop-at-requires c κs = search needs
+
+-- src/lib.rt:234:9
+same-length : tie.Need-same-length
+same-length c = search needs
+
+-- src/lib.rt:234:9
+returns : tie.Need-returns
+returns c =
+    let st = c .before .before .before .before .before .before .before .before .before .before in
+    ends-by _ _ _ _ _ _ _
+    (run-past (st .args .progress) (st .args .delivered .now) (st .args .received .now) (st .args .numbers .first) (st .args .numbers .second) (st .args .numbers .third)
+    _ (c .before .before .before .before .before .before .readings .ensures) (c .before .before .before .before .if1 .taken))
+    (c .before .before .stop-at .ensures (st .args .delivered .now) (st .args .received .now))
+
+-- src/lib.rt:236:15
+add-end : tie.Need-add-end
+add-end c = search needs
+
+-- src/lib.rt:237:5
+fill-requires : tie.Need-fill-requires
+fill-requires c κs = search needs
+
+-- src/lib.rt:238:5
+fill-requires-2 : tie.Need-fill-requires-2
+fill-requires-2 c κs = search needs
+
+-- src/lib.rt:220:1
+returns-2 : tie.Need-returns-2
+returns-2 c =
+    let st = c .before .before .before .before .before .before .before .before .before .before in
+    quiet (st .args .out .now) (st .args .at) _ _
+    (run-fits (st .args .progress) (st .args .delivered .now) (st .args .received .now) _ _ (st .args .numbers .first) (st .args .numbers .second) (st .args .numbers .third)
+    _ (c .before .before .before .before .before .before .before .readings-arg2 .given .0) (c .before .fill-arg2 .given .0 .1) (c .before .before .before .before .before .before .readings .ensures) (c .before .before .before .before .if1 .left) (c .before .before .fill .ensures) (c .fill2 .ensures))
+
+pub run-of-spec : {M : Type 1} → statement M
+run-of-spec =
+    tie.close
+    (tie.spec
+    readings-requires
+    cast-more
+    add-if1
+    stop-at-requires
+    same-length
+    returns
+    add-end
+    fill-requires
+    fill-requires-2
+    returns-2)

@@ -1,0 +1,2 @@
+pub mod Progressing
+pub mod Statement

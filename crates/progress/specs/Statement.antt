@@ -1,0 +1,180 @@
+-- Document 01, "Day view and statement": the program `statement`, line by line. s is what has been read so far, l a line, v the numbers that
+-- the line gives ("Grammar": none where it is unreadable).
+use mathlib.Core.Bool.{Bool, cond, not, _||_}
+use mathlib.Core.List.{List, [], _∷_, _++_}
+use Prim.Native.Nat.{ℕ, _+_, _-_, _^_}
+use lib.Dec.{eqb, leb, ltb}
+use lib.ListN.{length, getD, replicate}
+use lib.Seq.{sets}
+use Rattle.account.specs.declared.Account.{Account}
+use Rattle.account.specs.declared.Reply.{Reply}
+use Rattle.account.specs.declared.BillingReply.{BillingReply}
+use Rattle.account.specs.Account.{freshAccount, openingReply, billingReply}
+use Rattle.records.specs.Records.{termsAt, pricesAt}
+use Rattle.grammar.specs.Grammar.{openingLine, billLine, criticalLine, runLine}
+use Rattle.printing.specs.Printing.{billText, openText, lineText}
+
+-- Of a month that is being read: its number, its critical days and its readings so far.
+pub record Month : Type 0 where
+  pub month : ℕ
+  pub critical : ℕ
+  pub delivered : List ℕ
+  pub received : List ℕ
+
+abbrev pub monthOf : ℕ → ℕ → List ℕ → List ℕ → Month
+monthOf m x d e = record { month = m; critical = x; delivered = d; received = e }
+
+-- What has been read: how many lines, which line is due, the opening's seventeen numbers in the order of its lines (those not read yet are 0),
+-- the account, and the month that is being read.
+pub record State : Type 0 where
+  pub number : ℕ
+  pub due : ℕ
+  pub values : List ℕ
+  pub account : Account
+  pub entered : Month
+
+abbrev pub state : ℕ → ℕ → List ℕ → Account → Month → State
+state n d xs a m = record { number = n; due = d; values = xs; account = a; entered = m }
+
+-- "the first fourteen open the account": line k + 1 is due where due is k. Then "each month follows as bill, critical and any number of runs":
+-- after the opening a bill line is due, then a critical line, then a run or the next bill line.
+abbrev pub billDue : ℕ
+billDue = 14
+
+abbrev pub criticalDue : ℕ
+criticalDue = 15
+
+abbrev pub runDue : ℕ
+runDue = 16
+
+-- After a fault no line is.
+abbrev pub stopped : ℕ
+stopped = 17
+
+-- The state before the first line.
+abbrev pub start : State
+start = state 0 0 (replicate 17 0) freshAccount (monthOf 0 0 [] [])
+
+-- The state after a line, and what it prints.
+pub record Step : Type 0 where
+  pub state : State
+  pub text : List ℕ
+
+abbrev pub printing : List ℕ → State → Step
+printing text s = record { state = s; text = text }
+
+abbrev pub isUnreadable : List ℕ → Bool
+isUnreadable v = eqb (length v) 0
+
+-- The number of the next line. Our reading: numbers of lines stay at the largest one of 64 bits, which no input reaches.
+abbrev pub lastNumber : ℕ
+lastNumber = 2 ^ 64 - 1
+
+unfoldable pub nextNumber : ℕ → ℕ
+nextNumber n = cond (ltb n lastNumber) (n + 1) n
+
+unfoldable pub counted : State → State
+counted s = state (nextNumber (s .number)) (s .due) (s .values) (s .account) (s .entered)
+
+-- "A line out of order, unreadable or absent where one is due, or a run past 2,976 readings, prints `line=` with its number counted from 1 and
+-- stops; an opening or month still being read prints nothing."
+unfoldable pub stop : State → Step
+stop s = printing (lineText (s .number)) (state (s .number) stopped (s .values) (s .account) (s .entered))
+
+-- The numbers of line k + 1 stand at place k, but for the four prices of line 7, which move the later ones by three.
+abbrev pub placeOfLine : ℕ → ℕ
+placeOfLine k = cond (leb k 6) k (k + 3)
+
+-- "It prints the opening's number once line 14 is read"; xs are the opening's numbers.
+unfoldable pub opened : List ℕ → State → Step
+opened xs s =
+    let r : Reply = openingReply (s .account) (termsAt xs) (pricesAt xs) (getD xs 0 0) in
+    printing (openText (r .number)) (state (s .number) billDue xs (r .account) (s .entered))
+
+-- A line of the opening.
+unfoldable pub openingRead : List ℕ → State → Step
+openingRead v s =
+    let xs : List ℕ = sets (s .values) (placeOfLine (s .due)) v in
+    cond (isUnreadable v) (stop s)
+    (cond (ltb (s .due) 13) (printing [] (state (s .number) (s .due + 1) xs (s .account) (s .entered))) (opened xs s))
+
+-- A month begins with its bill line; it has no readings yet.
+abbrev pub begun : ℕ → State → State
+begun m s = state (s .number) criticalDue (s .values) (s .account) (monthOf m (s .entered .critical) [] [])
+
+unfoldable pub billRead : List ℕ → State → Step
+billRead v s = cond (isUnreadable v) (stop s) (printing [] (begun (getD v 0 0) s))
+
+-- Its critical line.
+abbrev pub withCritical : ℕ → State → State
+withCritical x s =
+    state (s .number) runDue (s .values) (s .account)
+    (monthOf (s .entered .month) x (s .entered .delivered) (s .entered .received))
+
+unfoldable pub criticalRead : List ℕ → State → Step
+criticalRead v s = cond (isUnreadable v) (stop s) (printing [] (withCritical (getD v 0 0) s))
+
+-- "any number of runs (count, delivered, received)": so many more readings of each register, in all at most 2,976.
+abbrev pub mostReadings : ℕ
+mostReadings = 2976
+
+abbrev pub withRun : ℕ → ℕ → ℕ → State → State
+withRun count d e s =
+    state (s .number) (s .due) (s .values) (s .account)
+    (monthOf (s .entered .month) (s .entered .critical)
+    (s .entered .delivered ++ replicate count d)
+    (s .entered .received ++ replicate count e))
+
+unfoldable pub runRead : ℕ → ℕ → ℕ → State → Step
+runRead count d e s =
+    cond (ltb mostReadings (length (s .entered .delivered) + count)) (stop s) (printing [] (withRun count d e s))
+
+-- "for each month, when it is complete, the month as entered, its number, the seven energy rows by period .., energy and due; a refused
+-- month's amounts are 0"
+abbrev pub monthReply : State → BillingReply
+monthReply s =
+    billingReply (s .account) (s .entered .month) (s .entered .delivered) (s .entered .received) (s .entered .critical)
+
+unfoldable pub monthEnd : State → Step
+monthEnd s =
+    let r : BillingReply = monthReply s in
+    printing (billText (s .entered .month) (r .number) (r .bill)) (state (s .number) (s .due) (s .values) (r .account) (s .entered))
+
+-- "it is complete when a readable bill line or the end of the input follows its critical line or a run"
+unfoldable pub laterRead : List ℕ → State → Step
+laterRead l s =
+    cond (not (isUnreadable (runLine l))) (runRead (getD (runLine l) 0 0) (getD (runLine l) 1 0) (getD (runLine l) 2 0) s)
+    (cond (isUnreadable (billLine l)) (stop s)
+    (printing (monthEnd s .text) (begun (getD (billLine l) 0 0) (monthEnd s .state))))
+
+-- A line, by what is due. After a fault nothing changes and nothing is printed.
+unfoldable pub dueRead : List ℕ → State → Step
+dueRead l s =
+    cond (ltb (s .due) billDue) (openingRead (openingLine (s .due) l) s)
+    (cond (eqb (s .due) billDue) (billRead (billLine l) s)
+    (cond (eqb (s .due) criticalDue) (criticalRead (criticalLine l) s)
+    (cond (eqb (s .due) runDue) (laterRead l s) (printing [] s))))
+
+unfoldable pub lineRead : List ℕ → State → Step
+lineRead l s = dueRead l (counted s)
+
+-- The end of the input: it completes a month, and fourteen lines with nothing after them are complete; elsewhere a line is absent, and has the
+-- number that it would have had.
+unfoldable pub atEnd : State → List ℕ
+atEnd s =
+    cond (eqb (s .due) billDue || ltb runDue (s .due)) []
+    (cond (eqb (s .due) runDue) (monthEnd s .text) (lineText (nextNumber (s .number))))
+
+-- What is printed from a state on.
+unfoldable pub textFrom : State → List (List ℕ) → List ℕ
+textFrom s [] = atEnd s
+textFrom s (l ∷ ls) = lineRead l s .text ++ textFrom (lineRead l s .state) ls
+
+-- Lines are the bytes between newline bytes. "The last line may lack its newline"; no bytes after the last newline are no line.
+unfoldable pub linesFrom : List ℕ → List ℕ → List (List ℕ)
+linesFrom l [] = cond (eqb (length l) 0) [] (l ∷ [])
+linesFrom l (b ∷ bs) = cond (eqb b 10) (l ∷ linesFrom [] bs) (linesFrom (l ++ b ∷ []) bs)
+
+-- What `statement` prints for an input.
+unfoldable pub statementOf : List ℕ → List ℕ
+statementOf bytes = textFrom start (linesFrom [] bytes)

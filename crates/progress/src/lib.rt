@@ -1,0 +1,395 @@
+// The lines of `statement`: what each of them changes and prints.
+ghost use mathlib.Core.Path.{_≡_};
+ghost use mathlib.Core.Bool.{true};
+ghost use mathlib.Core.List.{List, _++_};
+ghost use Prim.Native.Nat.{ℕ, _+_, _-_, _≤_, _<_, min};
+ghost use lib.Dec.{ltb};
+ghost use lib.ListN.{length, take, replicate};
+ghost use Rattle.grammar.specs.Grammar.{openingLine, billLine, criticalLine, runLine};
+ghost use Rattle.grammar.specs.Reading.{numbersAs};
+ghost use Rattle.printing.specs.Writing.{hasRoom, Put};
+ghost use Rattle.progress.specs.Statement.{start, runDue, nextNumber, counted, begun, stop, monthReply, opened, openingRead, billRead, criticalRead, runRead, monthEnd, laterRead, dueRead, lineRead, atEnd};
+ghost use Rattle.progress.specs.Progressing.{stateOf, valuesWith, StandsFor, StandsAs, Ends, EndsAs, Reads};
+use account::Account;
+use account::BillingReply;
+use grammar::Numbers;
+
+// What is due after the opening's lines.
+const BILL_DUE: u32 = 14;
+
+const CRITICAL_DUE: u32 = 15;
+
+const RUN_DUE: u32 = 16;
+
+const STOPPED: u32 = 17;
+
+// The most readings of a month.
+const MOST_READINGS: usize = 2976;
+
+// What the lines so far have given. The month's readings stand at the front of two registers that the caller lends.
+pub struct Progress {
+    number: u64,
+    due: u32,
+    values: [u32; 17],
+    account: Account,
+    month: u32,
+    critical: u32,
+    filled: usize,
+}
+
+// The progress after a line, and where its text ends.
+pub struct Ended {
+    pub progress: Progress,
+    pub at: usize,
+}
+
+// The number of the next line.
+fn next_number(number: u64) -> u64
+    ensures { λ r. ⌜ r ≡ nextNumber number ⌝ }
+{
+    if number < u64::MAX {
+        return number + 1;
+    }
+    number
+}
+
+// One line more.
+fn count(progress: Progress) -> Progress
+    ensures { λ r. ⌜ StandsAs counted progress r ⌝ }
+{
+    let mut next = progress;
+    next.number = next_number(progress.number);
+    next
+}
+
+// A fault of the line that was counted last.
+fn stop_at(progress: Progress, out: &mut [u8], at: usize) -> Ended
+    requires { ⌜ hasRoom (now out) at ≡ true ⌝ }
+    ensures { λ r. ⌜ EndsAs stop (now (out .entry)) at progress (r .progress) (now (out .exit)) (r .at) ⌝ }
+{
+    let mut next = progress;
+    next.due = STOPPED;
+    Ended {
+        progress: next,
+        at: printing::put_line(out, at, progress.number),
+    }
+}
+
+// The opening's numbers with those of one line more.
+fn with_values(values: [u32; 17], due: u32, numbers: Numbers) -> [u32; 17]
+    requires { ⌜ due < 14 ⌝ }
+    ensures { λ r. ⌜ r ≡ valuesWith values due numbers ⌝ }
+{
+    let mut next = values;
+    if due == 6 {
+        next[6] = numbers.first;
+        next[7] = numbers.second;
+        next[8] = numbers.third;
+        next[9] = numbers.fourth;
+        return next;
+    }
+    if due < 6 {
+        next[due as usize] = numbers.first;
+        return next;
+    }
+    next[due as usize + 3] = numbers.first;
+    next
+}
+
+// The opening's numbers as wider ones.
+fn widened(values: [u32; 17]) -> [u64; 17]
+    ensures { λ r. ⌜ r ≡ values ⌝ }
+{
+    let mut wide = [0u64; 17];
+    let mut place = 0;
+    while place < 17 {
+        wide[place] = values[place] as u64;
+        place += 1;
+    }
+    wide
+}
+
+// The account is opened.
+fn open(progress: Progress, values: [u32; 17], out: &mut [u8], at: usize) -> Ended
+    requires { ⌜ hasRoom (now out) at ≡ true ⌝ }
+    ensures { λ r. ⌜ EndsAs (opened values) (now (out .entry)) at progress (r .progress) (now (out .exit)) (r .at) ⌝ }
+{
+    let account = progress.account;
+    let wide = widened(values);
+    let terms = records::terms_at(&wide);
+    let prices = records::prices_at(&wide);
+    let reply = account.opening(terms, prices, values[0]);
+    let after = reply.account;
+    let mut next = progress;
+    next.due = BILL_DUE;
+    next.values = values;
+    next.account = after;
+    Ended {
+        progress: next,
+        at: printing::put_open(out, at, reply.number),
+    }
+}
+
+// A line of the opening.
+fn opening_line(progress: Progress, line: &[u8], out: &mut [u8], at: usize) -> Ended
+    requires { ⌜ progress .due < 14 ⌝ }
+    requires { ⌜ hasRoom (now out) at ≡ true ⌝ }
+    ensures { λ r. ⌜ EndsAs (openingRead (openingLine (progress .due) (now (line .entry)))) (now (out .entry)) at progress (r .progress) (now (out .exit)) (r .at) ⌝ }
+{
+    let due = progress.due;
+    let numbers = grammar::opening_line(due, line);
+    if numbers.count == 0 {
+        return stop_at(progress, out, at);
+    }
+    let old = progress.values;
+    let values = with_values(old, due, numbers);
+    if due < 13 {
+        let mut next = progress;
+        next.due = due + 1;
+        next.values = values;
+        return Ended { progress: next, at };
+    }
+    open(progress, values, out, at)
+}
+
+// A month begins.
+fn begin_month(progress: Progress, month: u32) -> Progress
+    ensures { λ r. ⌜ StandsAs (begun month) progress r ⌝ }
+{
+    let mut next = progress;
+    next.due = CRITICAL_DUE;
+    next.month = month;
+    next.filled = 0;
+    next
+}
+
+// The first bill line.
+fn bill_line(progress: Progress, line: &[u8], out: &mut [u8], at: usize) -> Ended
+    requires { ⌜ hasRoom (now out) at ≡ true ⌝ }
+    ensures { λ r. ⌜ EndsAs (billRead (billLine (now (line .entry)))) (now (out .entry)) at progress (r .progress) (now (out .exit)) (r .at) ⌝ }
+{
+    let numbers = grammar::bill_line(line);
+    if numbers.count == 0 {
+        return stop_at(progress, out, at);
+    }
+    Ended {
+        progress: begin_month(progress, numbers.first),
+        at,
+    }
+}
+
+// A critical line.
+fn critical_line(progress: Progress, line: &[u8], out: &mut [u8], at: usize) -> Ended
+    requires { ⌜ hasRoom (now out) at ≡ true ⌝ }
+    ensures { λ r. ⌜ EndsAs (criticalRead (criticalLine (now (line .entry)))) (now (out .entry)) at progress (r .progress) (now (out .exit)) (r .at) ⌝ }
+{
+    let numbers = grammar::critical_line(line);
+    if numbers.count == 0 {
+        return stop_at(progress, out, at);
+    }
+    let mut next = progress;
+    next.due = RUN_DUE;
+    next.critical = numbers.first;
+    Ended { progress: next, at }
+}
+
+// How many readings of the month a register has.
+fn readings(register: &[u32], filled: usize) -> usize
+    ensures { λ r. ⌜ r ≡ min filled (length (now (register .entry))) ⌝ }
+{
+    if filled < register.len() {
+        return filled;
+    }
+    register.len()
+}
+
+// Stores a reading at each place from one to another.
+fn fill(register: &mut [u32], from: usize, to: usize, reading: u32)
+    requires { ⌜ from ≤ to ⌝ }
+    requires { ⌜ to ≤ length (now register) ⌝ }
+    ensures { λ r. ⌜ take to (now (register .exit)) ≡ take from (now (register .entry)) ++ replicate (to - from) reading ⌝ }
+{
+    let mut place = from;
+    while place < to {
+        register[place] = reading;
+        place += 1;
+    }
+}
+
+// A run of equal readings.
+fn run_of(
+    progress: Progress,
+    numbers: Numbers,
+    delivered: &mut [u32; 2976],
+    received: &mut [u32; 2976],
+    out: &mut [u8],
+    at: usize,
+) -> Ended
+    requires { ⌜ hasRoom (now out) at ≡ true ⌝ }
+    ensures { λ r. ⌜ Ends (now (out .entry)) at (runRead (numbers .first) (numbers .second) (numbers .third) (stateOf progress (now (delivered .entry)) (now (received .entry)))) (stateOf (r .progress) (now (delivered .exit)) (now (received .exit))) (now (out .exit)) (r .at) ⌝ }
+{
+    let filled = readings(delivered, progress.filled);
+    let more = numbers.first as usize;
+    if MOST_READINGS < filled + more {
+        return stop_at(progress, out, at);
+    }
+    let end = filled + more;
+    fill(delivered, filled, end, numbers.second);
+    fill(received, filled, end, numbers.third);
+    let mut next = progress;
+    next.filled = end;
+    Ended { progress: next, at }
+}
+
+// A complete month is billed.
+fn bill(progress: Progress, delivered: &[u32], received: &[u32]) -> BillingReply
+    ensures { λ r. ⌜ r ≡ monthReply (stateOf progress (now (delivered .entry)) (now (received .entry))) ⌝ }
+{
+    let account = progress.account;
+    let taken = readings(delivered, progress.filled);
+    let given = readings(received, progress.filled);
+    account.billing(
+        progress.month,
+        &delivered[..taken],
+        &received[..given],
+        progress.critical,
+    )
+}
+
+// A complete month is billed and printed.
+fn end_month(
+    progress: Progress,
+    delivered: &[u32],
+    received: &[u32],
+    out: &mut [u8],
+    at: usize,
+) -> Ended
+    requires { ⌜ hasRoom (now out) at ≡ true ⌝ }
+    ensures { λ r. ⌜ Ends (now (out .entry)) at (monthEnd (stateOf progress (now (delivered .entry)) (now (received .entry)))) (stateOf (r .progress) (now (delivered .entry)) (now (received .entry))) (now (out .exit)) (r .at) ⌝ }
+{
+    let reply = bill(progress, delivered, received);
+    let after = reply.account;
+    let amounts = reply.bill;
+    let mut next = progress;
+    next.account = after;
+    Ended {
+        progress: next,
+        at: printing::put_bill(out, at, progress.month, reply.number, amounts),
+    }
+}
+
+// A run, or the bill line of the next month.
+fn later_line(
+    progress: Progress,
+    line: &[u8],
+    delivered: &mut [u32; 2976],
+    received: &mut [u32; 2976],
+    out: &mut [u8],
+    at: usize,
+) -> Ended
+    requires { ⌜ hasRoom (now out) at ≡ true ⌝ }
+    ensures { λ r. ⌜ Ends (now (out .entry)) at (laterRead (now (line .entry)) (stateOf progress (now (delivered .entry)) (now (received .entry)))) (stateOf (r .progress) (now (delivered .exit)) (now (received .exit))) (now (out .exit)) (r .at) ⌝ }
+{
+    let numbers = grammar::run_line(line);
+    if numbers.count != 0 {
+        return run_of(progress, numbers, delivered, received, out, at);
+    }
+    let bill = grammar::bill_line(line);
+    if bill.count == 0 {
+        return stop_at(progress, out, at);
+    }
+    let ended = end_month(progress, delivered, received, out, at);
+    let after = ended.progress;
+    Ended {
+        progress: begin_month(after, bill.first),
+        at: ended.at,
+    }
+}
+
+// A line, by what is due.
+fn due_line(
+    progress: Progress,
+    line: &[u8],
+    delivered: &mut [u32; 2976],
+    received: &mut [u32; 2976],
+    out: &mut [u8],
+    at: usize,
+) -> Ended
+    requires { ⌜ hasRoom (now out) at ≡ true ⌝ }
+    ensures { λ r. ⌜ Ends (now (out .entry)) at (dueRead (now (line .entry)) (stateOf progress (now (delivered .entry)) (now (received .entry)))) (stateOf (r .progress) (now (delivered .exit)) (now (received .exit))) (now (out .exit)) (r .at) ⌝ }
+{
+    let due = progress.due;
+    if due < BILL_DUE {
+        return opening_line(progress, line, out, at);
+    }
+    if due == BILL_DUE {
+        return bill_line(progress, line, out, at);
+    }
+    if due == CRITICAL_DUE {
+        return critical_line(progress, line, out, at);
+    }
+    if due == RUN_DUE {
+        return later_line(progress, line, delivered, received, out, at);
+    }
+    Ended { progress, at }
+}
+
+impl Progress {
+    // Nothing has been read.
+    pub fn start() -> Progress
+        ensures { λ r. ⌜ StandsFor start r ⌝ }
+    {
+        let account = Account::fresh();
+        Progress {
+            number: 0,
+            due: 0,
+            values: [0; 17],
+            account,
+            month: 0,
+            critical: 0,
+            filled: 0,
+        }
+    }
+
+    // Whether a fault has stopped it.
+    pub fn is_stopped(self) -> bool
+        ensures { λ r. ⌜ r ≡ ltb runDue (self .due) ⌝ }
+    {
+        RUN_DUE < self.due
+    }
+
+    // Reads a line and writes its text, where there is room; elsewhere nothing changes.
+    pub fn read_line(
+        self,
+        line: &[u8],
+        delivered: &mut [u32; 2976],
+        received: &mut [u32; 2976],
+        out: &mut [u8],
+        at: usize,
+    ) -> Ended
+        ensures { λ r. ⌜ Reads (now (out .entry)) at (stateOf self (now (delivered .entry)) (now (received .entry))) (lineRead (now (line .entry)) (stateOf self (now (delivered .entry)) (now (received .entry)))) (stateOf (r .progress) (now (delivered .exit)) (now (received .exit))) (now (out .exit)) (r .at) ⌝ }
+    {
+        if printing::has_room(out, at) {
+            return due_line(count(self), line, delivered, received, out, at);
+        }
+        Ended { progress: self, at }
+    }
+
+    // The end of the input after a whole line: writes the text that is left, where there is room, and says where it ends.
+    pub fn finish(self, delivered: &[u32], received: &[u32], out: &mut [u8], at: usize) -> usize
+        ensures { λ r. ⌜ Put (now (out .entry)) at (atEnd (stateOf self (now (delivered .entry)) (now (received .entry)))) (now (out .exit)) r ⌝ }
+    {
+        if self.due == BILL_DUE {
+            return at;
+        }
+        if RUN_DUE < self.due {
+            return at;
+        }
+        if self.due == RUN_DUE {
+            let reply = bill(self, delivered, received);
+            let amounts = reply.bill;
+            return printing::put_bill(out, at, self.month, reply.number, amounts);
+        }
+        printing::put_line(out, at, next_number(self.number))
+    }
+}

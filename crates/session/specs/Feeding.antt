@@ -1,0 +1,56 @@
+-- `statement` fed with bytes as they come.
+use mathlib.Core.Path.{_≡_}
+use mathlib.Core.Bool.{cond}
+use mathlib.Core.List.{List, [], _∷_, _++_}
+use Prim.Native.Nat.{ℕ, zero, suc, _+_, _-_}
+use lib.Dec.{eqb, leb}
+use lib.ListN.{length, take}
+use Rattle.printing.specs.Writing.{textRoom}
+use Rattle.progress.specs.Statement.{State, start, lineRead, atEnd, statementOf}
+
+-- No readable line has more than 50 bytes, so of a line that isn't complete yet at most 51 are kept: they tell that it is too long.
+abbrev pub keptBytes : ℕ
+keptBytes = 51
+
+-- What has been read, and the line that isn't complete yet.
+pub record Reading : Type 0 where
+  pub line : List ℕ
+  pub state : State
+
+abbrev pub begin : Reading
+begin = record { line = []; state = start }
+
+-- After one byte more, and what it prints.
+unfoldable pub afterByte : Reading → ℕ → Reading
+afterByte x b =
+    cond (eqb b 10) (record { line = []; state = lineRead (x .line) (x .state) .state })
+    (record { line = take keptBytes (x .line ++ b ∷ []); state = x .state })
+
+unfoldable pub byteText : Reading → ℕ → List ℕ
+byteText x b = cond (eqb b 10) (lineRead (x .line) (x .state) .text) []
+
+unfoldable pub after : Reading → List ℕ → Reading
+after x [] = x
+after x (b ∷ bs) = after (afterByte x b) bs
+
+unfoldable pub printed : Reading → List ℕ → List ℕ
+printed x [] = []
+printed x (b ∷ bs) = byteText x b ++ printed (afterByte x b) bs
+
+-- What the end of the input prints.
+unfoldable pub ending : Reading → List ℕ
+ending x =
+    cond (eqb (length (x .line)) 0) (atEnd (x .state))
+    (lineRead (x .line) (x .state) .text ++ atEnd (lineRead (x .line) (x .state) .state))
+
+-- How many bytes are taken where a buffer for the texts has so much room: each as long as any one text still fits.
+unfoldable pub takenOf : ℕ → Reading → List ℕ → ℕ
+takenOf room x [] = zero
+takenOf room x (b ∷ bs) = cond (leb textRoom room) (suc (takenOf (room - length (byteText x b)) (afterByte x b) bs)) zero
+
+-- Bytes in, text out: what is printed while they come and at their end is what `statement` prints for them, and where they are cut makes no
+-- difference.
+pub record Streams : Type 0 where
+  pub whole : (bytes : List ℕ) → printed begin bytes ++ ending (after begin bytes) ≡ statementOf bytes
+  pub cut-text : (x : Reading) (bytes more : List ℕ) → printed x (bytes ++ more) ≡ printed x bytes ++ printed (after x bytes) more
+  pub cut-state : (x : Reading) (bytes more : List ℕ) → after x (bytes ++ more) ≡ after (after x bytes) more

@@ -1,0 +1,38 @@
+-- What a session and the buffers lent to it stand for, and what its functions promise.
+use mathlib.Core.Path.{_≡_}
+use mathlib.Core.Bool.{cond}
+use mathlib.Core.List.{List}
+use Prim.Native.Nat.{ℕ, _≤_}
+use lib.Dec.{leb}
+use lib.ListN.{length, take}
+use lib.Seq.{sets}
+use Rattle.printing.specs.Writing.{Wrote}
+use Rattle.progress.specs.Progressing.{stateOf}
+use Rattle.session.specs.declared.Session.{Session}
+use Rattle.session.specs.Feeding.{Reading, begin, after, printed, ending, takenOf}
+
+-- The bytes of the line that isn't complete yet stand at the front of their buffer.
+abbrev pub readingOf : Session → List ℕ → List ℕ → List ℕ → Reading
+readingOf x line delivered received = record { line = take (x .held) line; state = stateOf (x .progress) delivered received }
+
+-- Whatever the buffers hold, nothing has been read.
+abbrev pub Begins : Session → Type 0
+Begins x = (line d e : List ℕ) → readingOf x line d e ≡ begin
+
+-- Feeding a session: how many bytes of the input it takes, what it stands for then, and what it writes from the front of the buffer for texts.
+pub record Feeds
+    (before : Reading) (input : List ℕ) (out : List ℕ) (taken : ℕ) (later : Reading) (written : ℕ) (outLater : List ℕ) : Type 0 where
+  pub takes : taken ≡ takenOf (length out) before input
+  pub reading : later ≡ after before (take taken input)
+  pub text : Wrote out 0 (printed before (take taken input)) outLater written
+  pub inside : taken ≤ length input
+  pub fits : written ≤ length out
+
+-- The end of the input: what is written from the front of the buffer for texts, where two texts fit.
+abbrev pub endRoom : ℕ
+endRoom = 2048
+
+pub record Finishes (before : Reading) (out : List ℕ) (written : ℕ) (outLater : List ℕ) : Type 0 where
+  pub bytes : outLater ≡ cond (leb endRoom (length out)) (sets out 0 (ending before)) out
+  pub end : written ≡ cond (leb endRoom (length out)) (length (ending before)) 0
+  pub fits : written ≤ length out
