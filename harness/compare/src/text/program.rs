@@ -36,9 +36,9 @@ pub enum Feeding {
 
 impl Program {
     pub fn new(path: &Path) -> io::Result<Program> {
+        let path = path.canonicalize()?;
         let scratch = std::env::temp_dir().join(format!("kozempil-compare-{}", std::process::id()));
         fs::create_dir_all(&scratch)?;
-        let path = path.canonicalize()?;
         Ok(Program { path, scratch })
     }
 
