@@ -50,7 +50,7 @@ pub fn call(random: &mut Random, account: &Account) -> Call {
 }
 
 /// A limit, one below, one above, or the least and largest numbers.
-fn near(random: &mut Random, limit: u32) -> u32 {
+pub fn near(random: &mut Random, limit: u32) -> u32 {
     let below = limit.saturating_sub(1);
     let above = limit.saturating_add(1);
     random.pick([below, limit, limit, above, 0, u32::MAX])
@@ -129,7 +129,7 @@ fn set_amount(list: &mut PriceList, place: u64, amount: u32) {
     *field = amount;
 }
 
-fn first_month(random: &mut Random) -> u32 {
+pub fn first_month(random: &mut Random) -> u32 {
     match random.below(8) {
         0 => near(random, LAST_MONTH),
         1 | 2 => LAST_MONTH - random.up_to(12),
@@ -151,7 +151,7 @@ fn billing(random: &mut Random, next_month: u32) -> Call {
 }
 
 /// Mostly up to ten days of the month.
-fn critical_days(random: &mut Random, month: u32) -> u32 {
+pub fn critical_days(random: &mut Random, month: u32) -> u32 {
     let days = days_in_month(month);
     let mut number = 0;
     for _ in 0..random.pick([0, 1, 4, 10, 10, 11, 12]) {

@@ -8,17 +8,23 @@ use crate::met::Met;
 use crate::rules::Rules;
 use crate::show;
 use crate::shrink;
+use crate::text;
 use crate::views;
 use crate::wrong::{self, Wrong};
 use harness::reference::ledger::{answer, run, Call};
+use std::path::{Path, PathBuf};
 
 /// The command line.
-#[derive(Clone, Copy, Debug)]
+#[derive(Clone, Debug)]
 pub struct Options {
-    /// First seed of the random lists.
+    /// First seed of the random lists and inputs.
     pub seed: u64,
     /// Number of random lists.
     pub lists: u64,
+    /// Number of random inputs of the program `statement`.
+    pub inputs: u64,
+    /// The program `statement`.
+    pub statement: PathBuf,
     /// Print the shortest list that shows each wrong variant.
     pub show_wrong: bool,
 }
@@ -28,6 +34,8 @@ impl Options {
         let mut options = Options {
             seed: 1_000_000,
             lists: 8_000,
+            inputs: 2_000,
+            statement: Path::new(env!("CARGO_MANIFEST_DIR")).join("../../target/bin/statement"),
             show_wrong: false,
         };
         let mut arguments = arguments.iter();
@@ -35,6 +43,8 @@ impl Options {
             match flag.as_str() {
                 "--seed" => options.seed = arguments.next()?.parse().ok()?,
                 "--lists" => options.lists = arguments.next()?.parse().ok()?,
+                "--inputs" => options.inputs = arguments.next()?.parse().ok()?,
+                "--statement" => options.statement = arguments.next()?.into(),
                 "--show-wrong" => options.show_wrong = true,
                 _ => return None,
             }
@@ -50,6 +60,8 @@ const MOST_SHOWN: usize = 3;
 pub struct Session {
     calls: usize,
     lists: usize,
+    /// Inputs of the program `statement`.
+    inputs: usize,
     differences: usize,
     /// Wrong variants that weren't noticed, and cases that weren't met.
     gaps: usize,
@@ -63,6 +75,7 @@ impl Session {
         session.damaged_buffers();
         session.given_accounts(options.seed, options.lists);
         session.day_views();
+        session.statements(options);
         session
     }
 
@@ -72,8 +85,8 @@ impl Session {
 
     pub fn last_line(&self) -> String {
         let line = format!(
-            "compared {} calls in {} lists, {} differences",
-            self.calls, self.lists, self.differences
+            "compared {} calls in {} lists and {} inputs of statement, {} differences",
+            self.calls, self.lists, self.inputs, self.differences
         );
         match self.gaps {
             0 => line,
@@ -253,6 +266,21 @@ impl Session {
         for ((name, _), noticed) in views::WRONG.iter().zip(noticed) {
             if !noticed {
                 self.gap(&format!("unnoticed: {name}"));
+            }
+        }
+    }
+
+    /// What the program `statement` prints.
+    fn statements(&mut self, options: &Options) {
+        match text::Session::run(&options.statement, options.seed, options.inputs) {
+            Err(error) => self.gap(&format!("{}: {error}", options.statement.display())),
+            Ok(text) => {
+                self.inputs += text.inputs;
+                self.differences += text.differences;
+                // Where there are differences, not all has been compared.
+                for (name, _) in text.unnoticed.iter().filter(|_| text.differences == 0) {
+                    self.gap(&format!("unnoticed: {name}"));
+                }
             }
         }
     }

@@ -59,15 +59,23 @@ fn days_text(critical_days: u32) -> String {
     format!("{critical_days} (days: {})", days.join(" "))
 }
 
-fn terms_text(terms: &Terms) -> String {
-    let rider = match terms.rider {
+pub fn rider_text(rider: Rider) -> &'static str {
+    match rider {
         Rider::Banked => "banked",
         Rider::Bridge => "bridge",
-    };
-    let class = match terms.class {
+    }
+}
+
+pub fn class_text(class: Class) -> &'static str {
+    match class {
         Class::Home => "home",
         Class::Business => "business",
-    };
+    }
+}
+
+fn terms_text(terms: &Terms) -> String {
+    let rider = rider_text(terms.rider);
+    let class = class_text(terms.class);
     let assisted = match terms.assisted {
         Assisted::No => "not assisted",
         Assisted::Yes => "assisted",

@@ -171,14 +171,14 @@ impl<'a> Reader<'a> {
 }
 
 /// A month as entered, and its number.
-struct EnteredMonth {
-    year: u32,
-    month_of_year: u32,
-    number: u32,
+pub struct EnteredMonth {
+    pub year: u32,
+    pub month_of_year: u32,
+    pub number: u32,
 }
 
 /// A year from 2000 to 9999, a dash and 01 to 12.
-fn entered_month(text: &[u8]) -> Option<EnteredMonth> {
+pub fn entered_month(text: &[u8]) -> Option<EnteredMonth> {
     let [y0, y1, y2, y3, b'-', m0, m1] = *text else {
         return None;
     };
@@ -209,7 +209,7 @@ fn numbers<const COUNT: usize>(text: &[u8]) -> Option<[u32; COUNT]> {
     numbers?.try_into().ok()
 }
 
-fn rider(text: &[u8]) -> Option<Rider> {
+pub fn rider(text: &[u8]) -> Option<Rider> {
     match text {
         b"banked" => Some(Rider::Banked),
         b"bridge" => Some(Rider::Bridge),
@@ -217,7 +217,7 @@ fn rider(text: &[u8]) -> Option<Rider> {
     }
 }
 
-fn class(text: &[u8]) -> Option<Class> {
+pub fn class(text: &[u8]) -> Option<Class> {
     match text {
         b"home" => Some(Class::Home),
         b"business" => Some(Class::Business),
@@ -225,7 +225,7 @@ fn class(text: &[u8]) -> Option<Class> {
     }
 }
 
-fn assisted(text: &[u8]) -> Option<Assisted> {
+pub fn assisted(text: &[u8]) -> Option<Assisted> {
     match text {
         b"yes" => Some(Assisted::Yes),
         b"no" => Some(Assisted::No),

@@ -5,6 +5,7 @@ mod helpers;
 mod bills;
 mod calendar;
 mod day_view;
+mod examples;
 mod hours;
 mod ledger;
 mod mistakes;

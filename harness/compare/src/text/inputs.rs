@@ -1,0 +1,420 @@
+//! What is fed to the program: the worked examples, one input with each line and byte
+//! changed in turn, and random inputs, most of them damaged.
+
+use crate::show::{class_text, rider_text};
+use harness::generate;
+use harness::random::Random;
+use harness::reference::account::{Assisted, PriceList, Terms};
+use harness::reference::calendar::{month_of_year, year, LAST_MONTH};
+use harness::reference::hours::register_length;
+use harness::reference::refusal::LARGEST_READING;
+use harness::reference::statement::MOST_READINGS;
+use std::collections::HashSet;
+use std::fs;
+use std::path::Path;
+
+pub struct Input {
+    pub name: String,
+    pub bytes: Vec<u8>,
+}
+
+/// The lines of an input, without their newlines.
+type Lines = Vec<Vec<u8>>;
+
+/// December 9999, the last month that can be written.
+const LAST_WRITTEN: u32 = 12 * 8_000 - 1;
+
+/// Numbers at the limits of their form, and some that have another form.
+const NUMBERS: [&str; 24] = [
+    "0",
+    "1",
+    "10",
+    "11",
+    "0000000000",
+    "0000000007",
+    "00000000007",
+    "00000000000",
+    "1000000",
+    "1000001",
+    "4294967295",
+    "4294967296",
+    "4294967303",
+    "8589934592",
+    "9999999999",
+    "99999999999",
+    "18446744073709551623",
+    "",
+    "+7",
+    "-7",
+    "7.",
+    "0x7",
+    "1e3",
+    "seven",
+];
+
+const MONTHS: [&str; 20] = [
+    "2000-01", "2001-01", "2001-12", "2099-12", "2100-01", "9999-12", "1999-12", "0000-01",
+    "10000-01", "2001-00", "2001-13", "2001-20", "2001-1", "2001-011", "201-011", "2001/01",
+    "2001-", "20O1-01", "+001-01", "",
+];
+
+const WORDS: [&str; 9] = [
+    "banked", "bridge", "home", "business", "yes", "no", "", "Home", "banked,",
+];
+
+const COUNTS: [u32; 11] = [
+    0,
+    1,
+    192,
+    288,
+    289,
+    2_688,
+    2_975,
+    2_976,
+    2_977,
+    u32::MAX - 2_975,
+    u32::MAX,
+];
+
+/// Bytes to put in any place.
+const BYTES: [u8; 25] = *b"0189,=-+ \t\r\n\0\x0b\x7f\x80\xff\xc3\xa4aB.'/:";
+
+/// A line that no rule of the format allows, however long it is.
+const LONG: usize = 300_000;
+
+/// The inputs of `examples/`.
+pub fn examples() -> Vec<Input> {
+    let folder = Path::new(env!("CARGO_MANIFEST_DIR")).join("../../examples");
+    let entries = fs::read_dir(folder).expect("the folder of examples is there");
+    let mut paths: Vec<_> = entries.flatten().map(|entry| entry.path()).collect();
+    paths.retain(|path| path.extension().is_some_and(|extension| extension == "in"));
+    paths.sort();
+    let read = |path: &std::path::PathBuf| Input {
+        name: format!("example {}", path.file_stem().unwrap_or_default().display()),
+        bytes: fs::read(path).expect("an example can be read"),
+    };
+    paths.iter().map(read).collect()
+}
+
+/// Single changes of one input, no input twice.
+pub fn changes() -> Vec<Input> {
+    let base: Lines = include_str!("base.in").lines().map(Into::into).collect();
+    let whole = joined(&base);
+    let mut inputs = Vec::new();
+    let mut seen = HashSet::new();
+    let mut add = |name: String, bytes: Vec<u8>| {
+        if seen.insert(bytes.clone()) {
+            inputs.push(Input { name, bytes });
+        }
+    };
+    for length in 0..=whole.len() {
+        add(format!("cut to {length} bytes"), whole[..length].to_vec());
+    }
+    for place in 0..whole.len() {
+        let (before, after) = whole.split_at(place);
+        add(
+            format!("without byte {place}"),
+            [before, &after[1..]].concat(),
+        );
+        add(
+            format!("byte {place} plus 128"),
+            [before, &[after[0] ^ 0x80], &after[1..]].concat(),
+        );
+    }
+    for number in 0..base.len() {
+        let mut change =
+            |name: &str, lines: Lines| add(format!("line {}, {name}", number + 1), joined(&lines));
+        let with = |line: &[u8]| {
+            let mut lines = base.clone();
+            lines[number] = line.to_vec();
+            lines
+        };
+        for value in NUMBERS.iter().chain(&MONTHS).chain(&WORDS) {
+            let (key, _) = parts(&base[number]);
+            change(value, with(&[key, b"=", value.as_bytes()].concat()));
+        }
+        for item in 0..4 {
+            for value in NUMBERS {
+                change(value, with(&with_item(&base[number], item, value)));
+            }
+        }
+        for byte in BYTES {
+            change(
+                "a byte before",
+                with(&[&[byte], &base[number][..]].concat()),
+            );
+            change("a byte after", with(&[&base[number][..], &[byte]].concat()));
+        }
+        for other in 0..base.len() {
+            let mut lines = base.clone();
+            lines.swap(number, other);
+            change("exchanged", lines);
+        }
+        change("a number more", with(&[&base[number][..], b",0"].concat()));
+        change("in capitals", with(&base[number].to_ascii_uppercase()));
+        change("long", with(&[&base[number][..], &[b'0'; LONG]].concat()));
+        let mut lines = base.clone();
+        lines.insert(number, Vec::new());
+        change("an empty one before", lines);
+        let mut lines = base.clone();
+        lines.insert(number, base[number].clone());
+        change("doubled", lines);
+        let mut lines = base.clone();
+        lines.remove(number);
+        change("dropped", lines);
+    }
+    let number = base.len() - 1;
+    for first in COUNTS {
+        for second in COUNTS {
+            let mut lines = base[..number].to_vec();
+            lines.push(format!("run={first},5,6").into());
+            lines.push(format!("run={second},7,8").into());
+            add(format!("runs of {first} and {second}"), joined(&lines));
+        }
+    }
+    inputs
+}
+
+/// So many random inputs, each from its own seed.
+pub fn random(first_seed: u64, count: u64) -> impl Iterator<Item = Input> {
+    (0..count).map(move |index| {
+        let seed = first_seed.wrapping_add(index);
+        let mut random = Random::new(seed);
+        let mut lines = well_formed(&mut random);
+        for _ in 0..random.pick([0, 0, 0, 1, 1, 1, 1, 1, 2, 4]) {
+            damage_line(&mut random, &mut lines);
+        }
+        let mut bytes = joined(&lines);
+        for _ in 0..random.pick([0, 0, 0, 0, 0, 1, 1, 2]) {
+            damage_byte(&mut random, &mut bytes);
+        }
+        Input {
+            name: format!("random input of seed {seed}"),
+            bytes,
+        }
+    })
+}
+
+/// The whole book, then months that it is too full for.
+pub fn book() -> Input {
+    let mut random = Random::new(0);
+    let mut lines: Lines = include_str!("base.in")
+        .lines()
+        .take(14)
+        .map(Into::into)
+        .collect();
+    lines[0] = b"opens=2000-01".to_vec();
+    for month in 0..=LAST_MONTH + 2 {
+        lines.push(format!("bill={}", month_text(month)).into());
+        lines.push(format!("critical={}", 1 << (month % 28)).into());
+        runs(&mut random, register_length(month), &mut lines);
+    }
+    Input {
+        name: "whole book".to_string(),
+        bytes: joined(&lines),
+    }
+}
+
+/// A line that is longer than any memory that the program should need.
+pub fn long() -> Input {
+    Input {
+        name: "a long line".to_string(),
+        bytes: vec![b'o'; 20_000_000],
+    }
+}
+
+fn joined(lines: &[Vec<u8>]) -> Vec<u8> {
+    let mut bytes = lines.join(&b'\n');
+    bytes.push(b'\n');
+    bytes
+}
+
+/// The key and the value of a line; of a line without `=` the whole and nothing.
+fn parts(line: &[u8]) -> (&[u8], &[u8]) {
+    match line.iter().position(|&byte| byte == b'=') {
+        Some(place) => (&line[..place], &line[place + 1..]),
+        None => (line, &[]),
+    }
+}
+
+/// The line with another item in its list of values.
+fn with_item(line: &[u8], item: usize, value: &str) -> Vec<u8> {
+    let (key, values) = parts(line);
+    let mut values: Vec<&[u8]> = values.split(|&byte| byte == b',').collect();
+    let place = item % values.len();
+    values[place] = value.as_bytes();
+    [key, b"=", &values.join(&b',')].concat()
+}
+
+fn month_text(month: u32) -> String {
+    format!("{:04}-{:02}", year(month), month_of_year(month))
+}
+
+/// A number, now and then with leading zeros.
+fn numeral(random: &mut Random, number: u32) -> String {
+    let width = match random.below(20) {
+        0 => 1 + random.below(10) as usize,
+        _ => 1,
+    };
+    format!("{number:0width$}")
+}
+
+/// An account and some months, mostly such as it accepts.
+fn well_formed(random: &mut Random) -> Lines {
+    let terms = generate::terms(random);
+    let price_list = generate::price_list(random);
+    let mut month = generate::first_month(random).min(LAST_WRITTEN);
+    let mut lines = opening_lines(random, &terms, &price_list, month);
+    for _ in 0..random.pick([0, 1, 1, 2, 2, 3, 14]) {
+        if random.once_in(25) {
+            month = generate::near(random, month);
+        }
+        month = month.min(LAST_WRITTEN);
+        month_lines(random, month, &mut lines);
+        month += 1;
+    }
+    lines
+}
+
+fn opening_lines(random: &mut Random, terms: &Terms, list: &PriceList, first_month: u32) -> Lines {
+    let assisted = match terms.assisted {
+        Assisted::No => "no",
+        Assisted::Yes => "yes",
+    };
+    let energy = list.energy.map(|price| numeral(random, price)).join(",");
+    let mut number = |number| numeral(random, number);
+    let values = [
+        ("opens", month_text(first_month)),
+        ("rider", rider_text(terms.rider).to_string()),
+        ("class", class_text(terms.class).to_string()),
+        ("nameplate", number(terms.nameplate)),
+        ("limit", number(terms.demand_limit)),
+        ("assisted", assisted.to_string()),
+        ("prices", energy),
+        ("demand", number(list.demand)),
+        ("standby", number(list.standby)),
+        ("bypass", number(list.bypass)),
+        ("credit", number(list.credit)),
+        ("distribution", number(list.distribution)),
+        ("basic", number(list.basic)),
+        ("minimum", number(list.minimum)),
+    ];
+    let line = |(key, value)| format!("{key}={value}").into_bytes();
+    values.map(line).to_vec()
+}
+
+fn month_lines(random: &mut Random, month: u32, lines: &mut Lines) {
+    let critical_days = generate::critical_days(random, month);
+    lines.push(format!("bill={}", month_text(month)).into());
+    lines.push(format!("critical={}", numeral(random, critical_days)).into());
+    if random.once_in(12) {
+        let delivered = generate::register(random, month);
+        let received = generate::register(random, month);
+        let readings: Vec<_> = delivered.iter().zip(&received).collect();
+        for run in readings.chunk_by(|one, next| one == next) {
+            lines.push(format!("run={},{},{}", run.len(), run[0].0, run[0].1).into());
+        }
+        return;
+    }
+    let right = register_length(month);
+    let length = match random.below(16) {
+        0 => random.pick([0, right - 1, right + 1, MOST_READINGS, MOST_READINGS + 1]),
+        _ => right,
+    };
+    runs(random, length, lines);
+}
+
+/// So many readings in a few runs.
+fn runs(random: &mut Random, length: usize, lines: &mut Lines) {
+    let mut left = length;
+    while left > 0 {
+        let some = 1 + random.below(left as u64) as usize;
+        let count = random.pick([some, some, left.min(96), left]);
+        let [delivered, received] = [0, 1].map(|_| reading(random));
+        let count_text = numeral(random, count as u32);
+        lines.push(format!("run={count_text},{delivered},{received}").into());
+        left -= count;
+    }
+}
+
+fn reading(random: &mut Random) -> String {
+    let any = random.up_to(2_000);
+    let largest = match random.below(30) {
+        0 => generate::near(random, LARGEST_READING),
+        _ => random.up_to(LARGEST_READING),
+    };
+    let reading = random.pick([0, 0, any, any, largest]);
+    numeral(random, reading)
+}
+
+/// Changes, drops, doubles or moves a line.
+fn damage_line(random: &mut Random, lines: &mut Lines) {
+    if lines.is_empty() {
+        return;
+    }
+    // A fault in the opening hides all that follows: most damage comes after it.
+    let from = random.pick([0, lines.len().min(14), lines.len().min(14)]) as u64;
+    let place = |random: &mut Random| {
+        let place = from + random.below(lines.len() as u64 - from);
+        place.min(lines.len() as u64 - 1) as usize
+    };
+    let (at, other) = (place(random), place(random));
+    let line = lines[at].clone();
+    let (key, value) = parts(&line);
+    let with_value = |value: &[u8]| [key, b"=", value].concat();
+    match random.below(14) {
+        0 => drop(lines.remove(at)),
+        1 => lines.insert(at, line),
+        2 => lines.swap(at, other),
+        3 => lines[at..].rotate_left(1),
+        4 => lines[at] = with_item(&line, random.below(4) as usize, random.pick(NUMBERS)),
+        5 => lines[at] = with_value(random.pick(MONTHS).as_bytes()),
+        6 => lines[at] = with_value(random.pick(WORDS).as_bytes()),
+        7 => lines.insert(at, Vec::new()),
+        8 => {
+            let [delivered, received] = [0, 1].map(|_| reading(random));
+            let run = format!("run={},{delivered},{received}", random.pick(COUNTS));
+            lines.insert(at, run.into());
+        }
+        9 => {
+            lines[at] = [
+                &key[..key.len() / 2],
+                &key[key.len().min(key.len() / 2 + 1)..],
+                b"=",
+                value,
+            ]
+            .concat()
+        }
+        10 => lines[at].push(random.pick([b'\r', b' ', b'\t', 0, b','])),
+        11 => lines[at] = [parts(&lines[other]).0, b"=", value].concat(),
+        12 => lines[at] = with_value(&[value, b",7"].concat()),
+        _ => {
+            if random.once_in(20) {
+                lines[at].resize(LONG, random.pick([b'0', b',', b'x']));
+            }
+        }
+    }
+}
+
+/// Changes the bytes, whatever they stand for.
+fn damage_byte(random: &mut Random, bytes: &mut Vec<u8>) {
+    let at = random.below(bytes.len() as u64) as usize;
+    let any = random.next_u64() as u8;
+    let byte = random.pick([random.clone().pick(BYTES), random.clone().pick(BYTES), any]);
+    match random.below(8) {
+        0 | 1 => bytes
+            .splice(at..bytes.len().min(at + 1), [byte])
+            .for_each(drop),
+        2 => bytes.insert(at, byte),
+        3 => bytes.splice(at..bytes.len().min(at + 1), []).for_each(drop),
+        4 => bytes.truncate(at),
+        5 => drop(bytes.pop()),
+        6 => bytes.push(b'\n'),
+        _ => {
+            *bytes = bytes
+                .split(|&byte| byte == b'\n')
+                .collect::<Vec<_>>()
+                .join(&b"\r\n"[..])
+        }
+    }
+}
