@@ -1,78 +1,70 @@
 -- How long the texts are: each fits where there is room.
+use mathlib.Core.Path.{_≡_}
 use mathlib.Core.Bool.{Bool, true, false, cond}
 use mathlib.Core.List.{List, [], _∷_, _++_}
-use Prim.Native.Nat.{ℕ, zero, suc, _+_, _/_, _%_, _≤_}
+use Prim.Native.Nat.{ℕ, _+_, _/_, _%_, _≤_}
 use native.Mathlib.Omega.{arith}
-use lib.Dec.{ltb}
+use lib.Dec.{eqb, lit≤}
 use lib.ListN.{length, length-append}
 use Rattle.calendar.specs.Calendar.{yearOf, monthOfYear}
-use Rattle.hours.specs.declared.ByPeriod.{ByPeriod}
 use Rattle.billing.specs.declared.Bill.{Bill}
 use Rattle.text.specs.Text.{bytesOf}
-use Rattle.printing.specs.Text.{decimal, digitByte, digits, twoDigits}
-use Rattle.printing.specs.Printing.{monthText, numberText, rowText, rowsText, billText, openText, lineText}
+use Rattle.printing.specs.Text.{decimal, mark, filledIn, mostBytes}
+use Rattle.printing.specs.Printing.{amounts, billTemplate, billText, openText, lineText}
+use Rattle.printing.specs.Writing.{Put}
+use Rattle.printing.proofs.Writing.{digits-length}
 
--- A text has at most k bytes.
-record Within (text : List ℕ) (k : ℕ) : Type 0 where
-  long : length text ≤ k
-
--- A text has as many bytes as it has.
-all : (xs : List ℕ) → Within xs (length xs)
-all xs = record { long = omega arith }
-
--- Two texts, one after the other.
-both : {xs ys : List ℕ} {m n : ℕ} → Within xs m → Within ys n → Within (xs ++ ys) (m + n)
-both p q = record { long = rw length-append (let h = p .long in let k = q .long in omega arith) }
-
--- One of two texts.
-either : (t : Bool) (xs ys : List ℕ) (k : ℕ) → length xs ≤ k → length ys ≤ k → length (cond t xs ys) ≤ k
+-- A number is put, or a byte.
+either : (m : Bool) (xs ys : List ℕ) (k : ℕ) → length xs ≤ 20 + k → length ys ≤ 1 + k → length (cond m xs ys) ≤ cond m 20 1 + k
 either true xs ys k h l = h
 either false xs ys k h l = l
 
--- A number has at most as many digits as are asked for.
-pub digits-length : (k n : ℕ) → length (digits k n) ≤ k
-unfolding digits
-digits-length zero n = omega arith
-digits-length (suc k) n =
-    let h = digits-length k (n / 10) in
-    either (ltb n 10) (digitByte n ∷ []) (digits k (n / 10) ++ digitByte (n % 10) ∷ []) (suc k) (omega arith) (rw length-append (omega arith))
+-- A template filled in has at most 20 bytes for each mark.
+pub filled-within : (t ns : List ℕ) → length (filledIn t ns) ≤ mostBytes t
+unfolding filledIn mostBytes
+filled-within [] ns = omega arith
+filled-within (b ∷ t) [] =
+    let h = filled-within t [] in
+    either (eqb b mark) (filledIn t []) (b ∷ filledIn t []) (mostBytes t) (omega arith) (omega arith)
+filled-within (b ∷ t) (n ∷ ns) =
+    let h = filled-within t ns in
+    let l = filled-within t (n ∷ ns) in
+    either (eqb b mark) (decimal n ++ filledIn t ns) (b ∷ filledIn t (n ∷ ns)) (mostBytes t)
+    (rw length-append (omega (arith, digits-length 20 n)))
+    (omega arith)
 
-decimals : (n : ℕ) → Within (decimal n) 20
-decimals n = record { long = digits-length 20 n }
+-- A template fits where there is room.
+fits : (t ns : List ℕ) {k : ℕ} → mostBytes t ≤ k → length (filledIn t ns) ≤ k
+fits t ns h = omega (arith, filled-within t ns)
 
-number : (word : List ℕ) (n : ℕ) → Within (numberText word n) (length word + 20)
-number word n = both (all word) (decimals n)
+-- The line of a month has at most 774 bytes, and the others 26.
+pub bill-most : mostBytes billTemplate ≤ 1024
+unfolding mostBytes
+bill-most = lit≤ tt
 
-row : (word : List ℕ) (a : ByPeriod) → Within (rowText word a) (length word + 20 + 21 + 21 + 21)
-row word a = both (both (both (number word (a .critical)) (number (bytesOf ",") (a .onpeak))) (number (bytesOf ",") (a .offpeak)))
-    (number (bytesOf ",") (a .discount))
+pub open-most : mostBytes (bytesOf "open=#\n") ≤ 1024
+unfolding mostBytes
+open-most = lit≤ tt
 
-rows : (b : Bill) → Within (rowsText b) 626
-rows b =
-    both (both (both (both (both (both (row (bytesOf " own=") (b .own)) (row (bytesOf " out=") (b .out))) (row (bytesOf " in=") (b .into)))
-    (row (bytesOf " paid=") (b .paid))) (row (bytesOf " forfeited=") (b .forfeited))) (row (bytesOf " billed=") (b .billed)))
-    (row (bytesOf " left=") (b .left))
+pub line-most : mostBytes (bytesOf "line=#\n") ≤ 1024
+unfolding mostBytes
+line-most = lit≤ tt
 
-month : (m : ℕ) → Within (monthText m) 23
-month m = both (both (decimals (yearOf m)) (all (bytesOf "-"))) (all (twoDigits (monthOfYear m)))
-
-pub rows-length : (b : Bill) → length (rowsText b) ≤ 626
-rows-length b = rows b .long
-
--- The line of a month has at most 736 bytes; this many are never needed.
-pub bill-fits : (m n : ℕ) (b : Bill) → length (billText m n b) ≤ 768
+-- Each text fits where there is room.
+pub bill-fits : (m n : ℕ) (b : Bill) → length (billText m n b) ≤ 1024
 unfolding billText
-bill-fits m n b =
-    let text = both (both (both (both (both (both (all (bytesOf "bill=")) (month m)) (number (bytesOf " answer=") n)) (rows b))
-    (number (bytesOf " energy=") (b .charges .energy))) (number (bytesOf " due=") (b .charges .due))) (all (bytesOf "\n")) in
-    let h = text .long in omega arith
+bill-fits m n b = fits billTemplate _ bill-most
 
--- The line of an opening has at most 26 bytes.
 pub open-fits : (n : ℕ) → length (openText n) ≤ 32
-unfolding openText
-open-fits n = let text = both (number (bytesOf "open=") n) (all (bytesOf "\n")) in let h = text .long in omega arith
+unfolding openText mostBytes
+open-fits n = fits (bytesOf "open=#\n") _ (lit≤ tt)
 
--- The line of a faulty or absent line has at most 26 bytes.
 pub line-fits : (n : ℕ) → length (lineText n) ≤ 32
-unfolding lineText
-line-fits n = let text = both (number (bytesOf "line=") n) (all (bytesOf "\n")) in let h = text .long in omega arith
+unfolding lineText mostBytes
+line-fits n = fits (bytesOf "line=#\n") _ (lit≤ tt)
+
+-- The numbers of a bill's line, where the calendar tells its year and month.
+pub bill-line : {o o1 : List ℕ} {i j y q : ℕ} (m n : ℕ) (b : Bill) → y ≡ yearOf m → q ≡ monthOfYear m
+    → Put o i (filledIn billTemplate (y ∷ q / 10 ∷ q % 10 ∷ n ∷ amounts b)) o1 j → Put o i (billText m n b) o1 j
+unfolding billText
+bill-line m n b ey eq w = rw (ey, eq) at w

@@ -1,54 +1,38 @@
 -- Document 01, "Day view and statement": what `statement` prints.
-use mathlib.Core.List.{List, _++_}
-use Prim.Native.Nat.{ℕ}
+use mathlib.Core.List.{List, [], _∷_, _++_}
+use Prim.Native.Nat.{ℕ, _/_, _%_}
 use Rattle.calendar.specs.Calendar.{yearOf, monthOfYear}
 use Rattle.hours.specs.declared.ByPeriod.{ByPeriod}
 use Rattle.text.specs.Text.{bytesOf}
 use Rattle.billing.specs.declared.Bill.{Bill}
-use Rattle.printing.specs.Text.{decimal, twoDigits}
+use Rattle.printing.specs.Text.{filledIn}
 
--- "the month as entered": a year, a dash and 01 to 12.
-abbrev pub monthText : ℕ → List ℕ
-monthText m = decimal (yearOf m) ++ bytesOf "-" ++ twoDigits (monthOfYear m)
+-- Four numbers by period, dearest first, and then others.
+abbrev pub four : ByPeriod → List ℕ → List ℕ
+four a rest = a .critical ∷ a .onpeak ∷ a .offpeak ∷ a .discount ∷ rest
 
--- A word, given by its bytes, and a number.
-abbrev pub numberText : List ℕ → ℕ → List ℕ
-numberText word n = word ++ decimal n
+-- "the seven energy rows by period (moved out as `out`, moved in as `in`), energy and due"
+abbrev pub amounts : Bill → List ℕ
+amounts b =
+    four (b .own)
+    (four (b .out)
+    (four (b .into)
+    (four (b .paid) (four (b .forfeited) (four (b .billed) (four (b .left) (b .charges .energy ∷ b .charges .due ∷ [])))))))
 
--- A word and four numbers by period, dearest first.
-abbrev pub rowText : List ℕ → ByPeriod → List ℕ
-rowText word a =
-    numberText word (a .critical)
-    ++ numberText (bytesOf ",") (a .onpeak)
-    ++ numberText (bytesOf ",") (a .offpeak)
-    ++ numberText (bytesOf ",") (a .discount)
-
--- "the seven energy rows by period (moved out as `out`, moved in as `in`)"
-abbrev pub rowsText : Bill → List ℕ
-rowsText b =
-    rowText (bytesOf " own=") (b .own)
-    ++ rowText (bytesOf " out=") (b .out)
-    ++ rowText (bytesOf " in=") (b .into)
-    ++ rowText (bytesOf " paid=") (b .paid)
-    ++ rowText (bytesOf " forfeited=") (b .forfeited)
-    ++ rowText (bytesOf " billed=") (b .billed)
-    ++ rowText (bytesOf " left=") (b .left)
+-- The line of a month's bill. "the month as entered" is a year, a dash and 01 to 12.
+abbrev pub billTemplate : List ℕ
+billTemplate =
+    bytesOf "bill=#-## answer=# own=#,#,#,# out=#,#,#,# in=#,#,#,# paid=#,#,#,#"
+    ++ bytesOf " forfeited=#,#,#,# billed=#,#,#,# left=#,#,#,# energy=# due=#\n"
 
 -- "the month as entered, its number, the seven energy rows by period .., energy and due", on one line.
 unfoldable pub billText : ℕ → ℕ → Bill → List ℕ
-billText m n b =
-    bytesOf "bill="
-    ++ monthText m
-    ++ numberText (bytesOf " answer=") n
-    ++ rowsText b
-    ++ numberText (bytesOf " energy=") (b .charges .energy)
-    ++ numberText (bytesOf " due=") (b .charges .due)
-    ++ bytesOf "\n"
+billText m n b = filledIn billTemplate (yearOf m ∷ monthOfYear m / 10 ∷ monthOfYear m % 10 ∷ n ∷ amounts b)
 
 -- "It prints the opening's number once line 14 is read".
 unfoldable pub openText : ℕ → List ℕ
-openText n = numberText (bytesOf "open=") n ++ bytesOf "\n"
+openText n = filledIn (bytesOf "open=#\n") (n ∷ [])
 
 -- "prints `line=` with its number counted from 1"
 unfoldable pub lineText : ℕ → List ℕ
-lineText n = numberText (bytesOf "line=") n ++ bytesOf "\n"
+lineText n = filledIn (bytesOf "line=#\n") (n ∷ [])

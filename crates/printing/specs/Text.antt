@@ -1,8 +1,8 @@
--- Numbers as texts.
+-- Numbers as texts, and texts with numbers in them.
 use mathlib.Core.Bool.{cond}
 use mathlib.Core.List.{List, [], _∷_, _++_}
 use Prim.Native.Nat.{ℕ, zero, suc, _+_, _/_, _%_}
-use lib.Dec.{ltb}
+use lib.Dec.{eqb, ltb}
 
 -- The byte of a decimal digit.
 abbrev pub digitByte : ℕ → ℕ
@@ -17,6 +17,17 @@ digits (suc k) n = cond (ltb n 10) (digitByte n ∷ []) (digits k (n / 10) ++ di
 abbrev pub decimal : ℕ → List ℕ
 decimal n = digits 20 n
 
--- The last two digits of a number.
-abbrev pub twoDigits : ℕ → List ℕ
-twoDigits n = digitByte (n / 10 % 10) ∷ digitByte (n % 10) ∷ []
+-- The byte of a template in whose place a number stands: `#`.
+abbrev pub mark : ℕ
+mark = 35
+
+-- A template with numbers in decimal in the places of its marks, in their order. Where no number is left, nothing is put.
+unfoldable pub filledIn : List ℕ → List ℕ → List ℕ
+filledIn [] ns = []
+filledIn (b ∷ t) [] = cond (eqb b mark) (filledIn t []) (b ∷ filledIn t [])
+filledIn (b ∷ t) (n ∷ ns) = cond (eqb b mark) (decimal n ++ filledIn t ns) (b ∷ filledIn t (n ∷ ns))
+
+-- The most bytes that a template has once it is filled in: 20 for each mark.
+unfoldable pub mostBytes : List ℕ → ℕ
+mostBytes [] = 0
+mostBytes (b ∷ t) = cond (eqb b mark) 20 1 + mostBytes t

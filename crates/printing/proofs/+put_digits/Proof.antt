@@ -1,15 +1,13 @@
 -- `printing::put_digits`: the digits before the last are written by its call of itself. The measure is the most digits, which falls by one.
-use mathlib.Core.Path.{_∙_}
 use native.Mathlib.Omega.{arith}
-use Rattle.printing.proofs.Writing.{wrote-none, wrote-one, wrote-more}
+use lib.ListN.{length-set}
+use Rattle.printing.proofs.Writing.{digits-within, wrote-none, wrote-one, wrote-more}
 use Prim.Native.Nat.{ℕ, _<_}
 use borrow.Fn.Kinds.{In}
 use borrow.Fn.PlainCycle.{Measures, is, falls, and}
 use Rattle.printing.proofs.put_digits.Reads as put-digits
 use Rattle.printing.proofs.put_digits.Kinds as put-digits-kinds
 use Rattle.printing.proofs.+put_digits.Lts-put_digits as put-digits-lts
-use Rattle.printing.proofs.digit_byte.Reads as digit-byte-reads
-use Rattle.printing.proofs.put_byte.Reads as put-byte-reads
 use Rattle.printing.proofs.+put_digits.{statement}
 use Rattle.printing.proofs.+put_digits.Tie.{close}
 
@@ -27,64 +25,76 @@ put-digits-below t =
 
 -- what the calls ask and give
 abbrev claims : ℕ → put-digits-lts.Claims
-claims t = (digit-byte-reads.Asked, digit-byte-reads.Learnt, put-byte-reads.Asked, put-byte-reads.Learnt, put-digits-below t, put-digits.Post)
+claims t = (put-digits-below t, put-digits.Post)
 
-put-digits-returns : (t : ℕ) → put-digits-lts.Need-returns (claims t) (put-digits-at t) put-digits.Post
-put-digits-returns t c = wrote-none _ _ _ _ (c .if1 .taken)
+returns : (t : ℕ) → put-digits-lts.Need-returns (claims t) (put-digits-at t) put-digits.Post
+returns t c = wrote-none _ _ _ _ (c .if1 .taken)
 
-put-digits-digit-byte-requires : (t : ℕ) → put-digits-lts.Need-digit-byte-requires (claims t) (put-digits-at t) put-digits.Post
-put-digits-digit-byte-requires t c κs = tt
+cast-out : (t : ℕ) → put-digits-lts.Need-cast-out (claims t) (put-digits-at t) put-digits.Post
+cast-out t c = omega arith
 
-put-digits-put-byte-requires : (t : ℕ) → put-digits-lts.Need-put-byte-requires (claims t) (put-digits-at t) put-digits.Post
-put-digits-put-byte-requires t c κs = tt
+add-out : (t : ℕ) → put-digits-lts.Need-add-out (claims t) (put-digits-at t) put-digits.Post
+add-out t c = omega arith
 
-put-digits-add-result : (t : ℕ) → put-digits-lts.Need-add-result (claims t) (put-digits-at t) put-digits.Post
-put-digits-add-result t c = omega arith
+slice-write-out : (t : ℕ) → put-digits-lts.Need-slice-write-out (claims t) (put-digits-at t) put-digits.Post
+slice-write-out t c = omega arith
 
-put-digits-same-length : (t : ℕ) → put-digits-lts.Need-same-length (claims t) (put-digits-at t) put-digits.Post
-put-digits-same-length t c = c .before .before .put-byte .kept .0
+add-result : (t : ℕ) → put-digits-lts.Need-add-result (claims t) (put-digits-at t) put-digits.Post
+add-result t c = omega arith
 
-put-digits-returns-2 : (t : ℕ) → put-digits-lts.Need-returns-2 (claims t) (put-digits-at t) put-digits.Post
-put-digits-returns-2 t c =
-    wrote-one _ _ _ _ _ _ (c .before .before .before .before .before .before .if1 .left) (c .before .before .before .before .before .if2 .taken) (c .before .before .before .digit-byte .ensures) (c .before .before .put-byte .ensures)
+same-length : (t : ℕ) → put-digits-lts.Need-same-length (claims t) (put-digits-at t) put-digits.Post
+same-length t c = simp length-set
 
-put-digits-sub-put-digits : (t : ℕ) → put-digits-lts.Need-sub-put-digits (claims t) (put-digits-at t) put-digits.Post
-put-digits-sub-put-digits t c = omega arith
+returns-2 : (t : ℕ) → put-digits-lts.Need-returns-2 (claims t) (put-digits-at t) put-digits.Post
+returns-2 t c = wrote-one _ _ _ _ (c .before .if1 .left) (c .if2 .taken)
 
-put-digits-put-digits-requires : (t : ℕ) → put-digits-lts.Need-put-digits-requires (claims t) (put-digits-at t) put-digits.Post
-put-digits-put-digits-requires t c κs = (omega arith, omega arith)
+sub-put-digits : (t : ℕ) → put-digits-lts.Need-sub-put-digits (claims t) (put-digits-at t) put-digits.Post
+sub-put-digits t c = omega arith
 
-put-digits-digit-byte-requires-2 : (t : ℕ) → put-digits-lts.Need-digit-byte-requires-2 (claims t) (put-digits-at t) put-digits.Post
-put-digits-digit-byte-requires-2 t c κs = tt
+put-digits-requires : (t : ℕ) → put-digits-lts.Need-put-digits-requires (claims t) (put-digits-at t) put-digits.Post
+put-digits-requires t c κs = (omega arith, omega arith)
 
-put-digits-put-byte-requires-2 : (t : ℕ) → put-digits-lts.Need-put-byte-requires-2 (claims t) (put-digits-at t) put-digits.Post
-put-digits-put-byte-requires-2 t c κs = tt
+cast-out-2 : (t : ℕ) → put-digits-lts.Need-cast-out-2 (claims t) (put-digits-at t) put-digits.Post
+cast-out-2 t c = omega arith
 
-put-digits-add-result-2 : (t : ℕ) → put-digits-lts.Need-add-result-2 (claims t) (put-digits-at t) put-digits.Post
-put-digits-add-result-2 t c = omega arith
+add-out-2 : (t : ℕ) → put-digits-lts.Need-add-out-2 (claims t) (put-digits-at t) put-digits.Post
+add-out-2 t c = omega arith
 
-put-digits-same-length-2 : (t : ℕ) → put-digits-lts.Need-same-length-2 (claims t) (put-digits-at t) put-digits.Post
-put-digits-same-length-2 t c = c .before .before .put-byte2 .kept .0 ∙ c .before .before .before .before .before .before .before .put-digits .kept .0
+slice-write-out-2 : (t : ℕ) → put-digits-lts.Need-slice-write-out-2 (claims t) (put-digits-at t) put-digits.Post
+slice-write-out-2 t c =
+    let call = c .before .before in
+    omega (arith, digits-within _ _ (call .put-digits .ensures), call .put-digits .kept .0)
 
-put-digits-returns-3 : (t : ℕ) → put-digits-lts.Need-returns-3 (claims t) (put-digits-at t) put-digits.Post
-put-digits-returns-3 t c =
-    wrote-more _ (c .before .before .before .before .before .before .before .before .before .before .if1 .left) (c .before .before .before .before .before .before .before .before .before .if2 .left) (c .before .before .before .before .before .before .before .put-digits .ensures) (c .before .before .before .digit-byte2 .ensures)
-    (c .before .before .put-byte2 .ensures)
+add-result-2 : (t : ℕ) → put-digits-lts.Need-add-result-2 (claims t) (put-digits-at t) put-digits.Post
+add-result-2 t c =
+    let call = c .before .before in
+    omega (arith, digits-within _ _ (call .put-digits .ensures), call .put-digits .kept .0)
+
+same-length-2 : (t : ℕ) → put-digits-lts.Need-same-length-2 (claims t) (put-digits-at t) put-digits.Post
+same-length-2 t c = simp length-set (c .before .before .put-digits .kept .0)
+
+returns-3 : (t : ℕ) → put-digits-lts.Need-returns-3 (claims t) (put-digits-at t) put-digits.Post
+returns-3 t c =
+    let call = c .before .before in
+    let test = call .before .before in
+    wrote-more _ (test .before .if1 .left) (test .if2 .left) (call .put-digits .ensures)
 
 pub +put-digits-spec : {M : Type 1} → statement M
 +put-digits-spec = close μ-put-digits λ t. put-digits-lts.spec (claims t)
     (put-digits-at t)
     put-digits.Post
-    (put-digits-returns t)
-    (put-digits-digit-byte-requires t)
-    (put-digits-put-byte-requires t)
-    (put-digits-add-result t)
-    (put-digits-same-length t)
-    (put-digits-returns-2 t)
-    (put-digits-sub-put-digits t)
-    (put-digits-put-digits-requires t)
-    (put-digits-digit-byte-requires-2 t)
-    (put-digits-put-byte-requires-2 t)
-    (put-digits-add-result-2 t)
-    (put-digits-same-length-2 t)
-    (put-digits-returns-3 t)
+    (returns t)
+    (cast-out t)
+    (add-out t)
+    (slice-write-out t)
+    (add-result t)
+    (same-length t)
+    (returns-2 t)
+    (sub-put-digits t)
+    (put-digits-requires t)
+    (cast-out-2 t)
+    (add-out-2 t)
+    (slice-write-out-2 t)
+    (add-result-2 t)
+    (same-length-2 t)
+    (returns-3 t)
