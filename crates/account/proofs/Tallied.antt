@@ -1,7 +1,7 @@
 -- A billing from the tallies of its registers: the number is the table's, and the amounts of an accepted bill are those of the steps.
 use mathlib.Core.Path.{_≡_, refl, _∙_, sym}
-use mathlib.Core.Bool.{Bool, true, false, _||_}
-use mathlib.Core.List.{List}
+use mathlib.Core.Bool.{Bool, true, false, not, _||_}
+use mathlib.Core.List.{List, [], _∷_}
 use Prim.Native.Nat.{ℕ, _≤_}
 use native.Mathlib.Omega.{arith}
 use borrow.Author.Tests.{ne-eqb}
@@ -13,7 +13,9 @@ use Rattle.tariff.proofs.Laws.{nameplate-within}
 use Rattle.billing.specs.Billing.{billOrNone, noBill}
 use Rattle.billing.specs.declared.Bill.{Bill}
 use Rattle.registers.specs.declared.Tally.{Tally}
-use Rattle.refusals.specs.Table.{billingRow}
+use lib.Dec.{eqb, ltb}
+use Rattle.calendar.specs.Calendar.{lastMonth}
+use Rattle.refusals.specs.Table.{row, firstOf, billingRow}
 use Rattle.account.specs.declared.BillingReply.{BillingReply}
 use Rattle.billing.proofs.Limits.{billable-true, at-most}
 use Rattle.account.specs.declared.Account.{Account}
@@ -79,6 +81,24 @@ module _ (a : Account) (m : ℕ) (delivered received : List ℕ) (x : ℕ) where
       → short ≡ (t .wronglength || g .wronglength) → days ≡ criticalRefused m x → above ≡ (t .abovelimit || g .abovelimit)
       → n ≡ billingRow fresh bad (a .next) m short days above → n ≡ billingNumber a m delivered received x
   number-found s t g fresh bad short days above n f u i j k o p q e = rw (e, f, u, o, p, q, j, k, i) number-is
+
+  -- Rows 1, 3, 11 and 7 need no reading.
+  pub early-number : (fresh bad : Bool) (n : ℕ) → fresh ≡ isFresh (a .stage) → bad ≡ unusable a
+      → n ≡ billingRow fresh bad (a .next) m false false false → (n ≡ 0 → ⊥) → n ≡ billingNumber a m delivered received x
+  unfolding billingRow billingNumber
+  early-number fresh bad n f u e z =
+      let k : n ≡ billingRow (isFresh (a .stage)) (unusable a) (a .next) m false false false = e ∙ rw (f, u) in
+      k ∙ by (isFresh (a .stage)) (unusable a) (ltb lastMonth (a .next)) (not (eqb m (a .next))) (λ q. z (k ∙ q))
+    where
+      by : (p q b c : Bool) → (firstOf (row 1 p ∷ row 3 q ∷ row 11 b ∷ row 7 c ∷ row 8 false ∷ row 9 false ∷ row 10 false ∷ []) ≡ 0 → ⊥)
+          → firstOf (row 1 p ∷ row 3 q ∷ row 11 b ∷ row 7 c ∷ row 8 false ∷ row 9 false ∷ row 10 false ∷ [])
+          ≡ firstOf (row 1 p ∷ row 3 q ∷ row 11 b ∷ row 7 c ∷ row 8 (lengthRefused m delivered || lengthRefused m received)
+          ∷ row 9 (criticalRefused m x) ∷ row 10 (readingRefused delivered || readingRefused received) ∷ [])
+      by true q b c h = refl
+      by false true b c h = refl
+      by false false true c h = refl
+      by false false false true h = refl
+      by false false false false h = absurd (h refl)
 
   pub refused-reply : (n : ℕ) (b : Bill) → n ≡ billingNumber a m delivered received x → (n ≡ 0 → ⊥) → b ≡ noBill
       → _≡_ {A = BillingReply} (record { number = n; bill = b; account = a }) (billingReply a m delivered received x)

@@ -193,6 +193,37 @@ fn billed(account: Account, month: u32, delivered: Tally, received: Tally) -> Bi
     }
 }
 
+// Bills a month from its readings. They are counted only where no row before theirs applies: `billing` asks those first.
+fn bill_readings(
+    account: Account,
+    month: u32,
+    delivered: &[u32],
+    received: &[u32],
+    critical_days: u32,
+) -> BillingReply
+    ensures { λ r. ⌜ r ≡ billingReply account month (now (delivered .entry)) (now (received .entry)) «critical_days» ⌝ }
+{
+    let stage = account.stage;
+    let fresh = is_fresh(stage);
+    let unusable = is_unusable(account);
+    let schedule = hours::fixed_schedule();
+    let taken = registers::tally_of(&schedule, delivered, month, critical_days);
+    let given = registers::tally_of(&schedule, received, month, critical_days);
+    let short = either(taken.wronglength, given.wronglength);
+    let days = hours::critical_refused(month, critical_days);
+    let above = either(taken.abovelimit, given.abovelimit);
+    let next = account.next;
+    let number = refusals::billing_row(fresh, unusable, next, month, short, days, above);
+    if number != 0 {
+        return BillingReply {
+            number,
+            bill: billing::no_bill(),
+            account,
+        };
+    }
+    billed(account, month, taken, given)
+}
+
 impl Account {
     // The account that a list of calls starts from.
     pub fn fresh() -> Account
@@ -303,22 +334,16 @@ impl Account {
         let stage = self.stage;
         let fresh = is_fresh(stage);
         let unusable = is_unusable(self);
-        let schedule = hours::fixed_schedule();
-        let taken = registers::tally_of(&schedule, delivered, month, critical_days);
-        let given = registers::tally_of(&schedule, received, month, critical_days);
-        let short = either(taken.wronglength, given.wronglength);
-        let days = hours::critical_refused(month, critical_days);
-        let above = either(taken.abovelimit, given.abovelimit);
         let next = self.next;
-        let number = refusals::billing_row(fresh, unusable, next, month, short, days, above);
-        if number != 0 {
+        let early = refusals::billing_row(fresh, unusable, next, month, false, false, false);
+        if early != 0 {
             return BillingReply {
-                number,
+                number: early,
                 bill: billing::no_bill(),
                 account: self,
             };
         }
-        billed(self, month, taken, given)
+        bill_readings(self, month, delivered, received, critical_days)
     }
 
     // Forfeits what is carried, refunds what is standing, and closes the account.

@@ -1,80 +1,48 @@
--- `account::Account::billing` tallies both registers, goes by its number, and bills: `Tallied` joins the three.
+-- `account::Account::billing` asks the rows that need no reading first.
+use Rattle.account.proofs.Tallied.{early-number, refused-reply}
 use borrow.Author.Needs.{needs}
-use mathlib.Core.Path.{_≡_, sym, _∙_}
-use Rattle.account.specs.Refusals.{billingNumber}
-use Rattle.account.proofs.Accepted.{billing-accepted}
-use Rattle.account.proofs.Tallied.{number-found, refused-reply, accepted-reply}
 use Rattle.account.proofs.Account.billing.Statement.{statement}
 use Rattle.account.proofs.Account.billing.Tie as tie
+use Rattle.account.proofs.Account.billing.Reads as reads
+use Rattle.account.proofs.Account.billing.Lts as lts
+use Rattle.account.proofs.bill_readings.Reads as bill-readings-reads
+use Rattle.account.proofs.is_fresh.Reads as is-fresh-reads
+use Rattle.account.proofs.is_unusable.Reads as is-unusable-reads
+use Rattle.billing.proofs.no_bill.Reads as no-bill-reads
+use Rattle.refusals.proofs.billing_row.Reads as billing-row-reads
 
--- The number found is the table's.
-found : (c : tie.After-billing-row) →
-    c .billing-row .result
-    ≡ billingNumber
-    (c .before .before .before .before .before .before .before .before .before .before .before .before .before .args .self)
-    (c .before .before .before .before .before .before .before .before .before .before .before .before .before .args .month)
-    (c .before .before .before .before .before .before .before .before .before .before .before .before .before .args .delivered .now)
-    (c .before .before .before .before .before .before .before .before .before .before .before .before .before .args .received .now)
-    (c .before .before .before .before .before .before .before .before .before .before .before .before .before .args .critical-days)
-found c =
-    number-found
-    _ _ _ _ _ _ _ _ _ _ _ _ _ _
-    (c .before .before .before .before .before .before .before .before .before .before .is-fresh .ensures)
-    (c .before .before .before .before .before .before .before .before .before .is-unusable .ensures)
-    (c .before .before .before .before .before .before .before .before .fixed-schedule .ensures)
-    (c .before .before .before .before .before .before .tally-of .ensures)
-    (c .before .before .before .before .tally-of2 .ensures)
-    (c .before .before .before .either .ensures)
-    (c .before .before .critical-refused .ensures)
-    (c .before .either2 .ensures)
-    (c .billing-row .ensures)
-
+-- src/lib.rt:335:13
 is-fresh-requires : tie.Need-is-fresh-requires
 is-fresh-requires c κs = search needs
 
+-- src/lib.rt:336:13
 is-unusable-requires : tie.Need-is-unusable-requires
 is-unusable-requires c κs = search needs
 
-fixed-schedule-requires : tie.Need-fixed-schedule-requires
-fixed-schedule-requires c κs = search needs
-
-tally-of-requires : tie.Need-tally-of-requires
-tally-of-requires c κs = search needs
-
-tally-of-requires-2 : tie.Need-tally-of-requires-2
-tally-of-requires-2 c κs = search needs
-
-either-requires : tie.Need-either-requires
-either-requires c κs = search needs
-
-critical-refused-requires : tie.Need-critical-refused-requires
-critical-refused-requires c κs = search needs
-
-either-requires-2 : tie.Need-either-requires-2
-either-requires-2 c κs = search needs
-
+-- src/lib.rt:338:13
 billing-row-requires : tie.Need-billing-row-requires
 billing-row-requires c κs = search needs
 
+-- src/lib.rt:342:23
 no-bill-requires : tie.Need-no-bill-requires
 no-bill-requires c κs = search needs
 
+-- src/lib.rt:340:13
 returns : tie.Need-returns
-returns c = refused-reply _ _ _ _ _ _ _ (found (c .before .before)) (c .before .if1 .taken) (c .no-bill .ensures)
+returns c =
+    let args = c .before .before .before .before .before .before .before .args in
+    refused-reply (args .self) (args .month) (args .delivered .now) (args .received .now) (args .critical-days) _ _
+    (early-number (args .self) (args .month) (args .delivered .now) (args .received .now) (args .critical-days) _ _ _
+    (c .before .before .before .before .is-fresh .ensures) (c .before .before .before .is-unusable .ensures) (c .before .before .billing-row .ensures) (c .before .if1 .taken))
+    (c .before .if1 .taken) (c .no-bill .ensures)
 
-billed-requires : tie.Need-billed-requires
-billed-requires c κs = billing-accepted _ _ _ _ _ (sym (found (c .before)) ∙ c .if1 .left) .next
+-- src/lib.rt:346:9
+bill-readings-requires : tie.Need-bill-readings-requires
+bill-readings-requires c κs = search needs
 
+-- src/lib.rt:325:5
 returns-2 : tie.Need-returns-2
-returns-2 c =
-    c .billed .ensures
-    ∙ accepted-reply
-    _ _ _ _ _ _ _ _ _
-    (c .before .before .before .before .before .before .before .before .before .before .fixed-schedule .ensures)
-    (c .before .before .before .before .before .before .before .before .tally-of .ensures)
-    (c .before .before .before .before .before .before .tally-of2 .ensures)
-    (found (c .before .before))
-    (c .before .if1 .left)
+returns-2 c = search needs
 
 pub billing-spec : {M : Type 1} → statement M
 billing-spec =
@@ -82,14 +50,8 @@ billing-spec =
     (tie.spec
     is-fresh-requires
     is-unusable-requires
-    fixed-schedule-requires
-    tally-of-requires
-    tally-of-requires-2
-    either-requires
-    critical-refused-requires
-    either-requires-2
     billing-row-requires
     no-bill-requires
     returns
-    billed-requires
+    bill-readings-requires
     returns-2)
