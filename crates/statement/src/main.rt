@@ -11,12 +11,21 @@ struct Given {
     goes_on: bool,
 }
 
-// Reads once, and says how many bytes came: none at the end of the input.
-fn read_some(input: &mut [u8]) -> usize
-    ensures { λ r. ⌜ r ≤ length (now (input .entry)) ⌝ }
+// What one read brought: so many bytes, none at the end of the input, or a failure.
+struct Got {
+    bytes: usize,
+    failed: bool,
+}
+
+// Reads once.
+fn read_some(input: &mut [u8]) -> Got
+    ensures { λ r. ⌜ r .bytes ≤ length (now (input .entry)) ⌝ }
 {
     let got = libc::read(STDIN_FILENO, input);
-    io::count(got, input)
+    Got {
+        bytes: io::count(got, input),
+        failed: got < 0,
+    }
 }
 
 // Writes the front of a buffer, and says whether that went well.
@@ -67,7 +76,12 @@ fn main() {
     let mut turns = u64::MAX;
     while turns > 0 {
         turns -= 1;
-        let end = read_some(&mut input);
+        let got = read_some(&mut input);
+        // An input that can't be read on isn't at its end, so what is incomplete stays so.
+        if got.failed {
+            return;
+        }
+        let end = got.bytes;
         if end == 0 {
             break;
         }

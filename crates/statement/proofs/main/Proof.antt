@@ -35,6 +35,9 @@ slice-aggregate-read-some c = omega arith
 read-some-requires : tie.Need-read-some-requires Inv-loop μ-loop
 read-some-requires c κs = search needs
 
+returns : tie.Need-returns Inv-loop μ-loop
+returns c = tt
+
 array-share-prefix-input : tie.Need-array-share-prefix-input Inv-loop μ-loop
 array-share-prefix-input c = omega arith
 
@@ -47,8 +50,8 @@ slice-aggregate-give-2 c = omega arith
 give-requires : tie.Need-give-requires Inv-loop μ-loop
 give-requires c κs = search needs
 
-returns : tie.Need-returns Inv-loop μ-loop
-returns c = tt
+returns-2 : tie.Need-returns-2 Inv-loop μ-loop
+returns-2 c = tt
 
 loop-less : tie.Need-loop-less Inv-loop μ-loop
 loop-less c = omega arith
@@ -68,8 +71,8 @@ slice-aggregate-write-front c = omega arith
 write-front-requires : tie.Need-write-front-requires Inv-loop μ-loop
 write-front-requires c κs = search needs
 
-returns-2 : tie.Need-returns-2 Inv-loop μ-loop
-returns-2 c = tt
+returns-3 : tie.Need-returns-3 Inv-loop μ-loop
+returns-3 c = tt
 
 pub main-spec : {M : Type 1} → statement M
 main-spec =
@@ -84,15 +87,16 @@ main-spec =
     sub-turns
     slice-aggregate-read-some
     read-some-requires
+    returns
     array-share-prefix-input
     slice-aggregate-give
     slice-aggregate-give-2
     give-requires
-    returns
+    returns-2
     loop-less
     loop-again
     slice-aggregate-finish
     finish-requires
     slice-aggregate-write-front
     write-front-requires
-    returns-2)
+    returns-3)
