@@ -20,7 +20,7 @@ const END_ROOM: usize = 2048;
 const NEWLINE: u8 = 10;
 
 // The progress of the lines so far, and how many bytes are held of the line that isn't complete yet. They stand at the front of a buffer that
-// the caller lends, and the month's readings at the front of two registers.
+// the caller lends, and the month's readings at the front of two registers: lend the same ones at each call, as the call before left them.
 pub struct Session {
     held: usize,
     progress: Progress,
