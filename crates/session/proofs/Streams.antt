@@ -8,7 +8,7 @@ use borrow.Author.Tests.{ne-eqb, le-leb}
 use lib.Dec.{eqb}
 use lib.ListN.{length, take}
 use Rattle.progress.specs.Statement.{State, lineRead, atEnd, textFrom, linesFrom, statementOf}
-use Rattle.session.specs.Feeding.{Reading, begin, afterByte, byteText, after, printed, ending, takenOf, Streams}
+use Rattle.session.specs.Feeding.{Reading, begin, afterByte, byteText, after, printed, ending, takenOf, joined, piecesText, Streams}
 use Rattle.session.proofs.Lines.{line-cut}
 
 pub cut-text : (x : Reading) (bytes more : List ℕ) → printed x (bytes ++ more) ≡ printed x bytes ++ printed (after x bytes) more
@@ -73,9 +73,25 @@ from-line (b ∷ bytes) l s = by (eqb b 10) refl (from-line bytes [] (lineRead l
         (ap (λ (t : List ℕ). lineRead l s .text ++ t) new)
     by false e new same = rw (e, other-text (unfinished l s) b e, other-state (unfinished l s) b e, kept-again 51 l (b ∷ [])) same
 
+-- Pieces are read one after the other.
+pieces-from : (x : Reading) (ps : List (List ℕ)) → piecesText x ps ≡ printed x (joined ps) ++ ending (after x (joined ps))
+unfolding piecesText joined printed after
+pieces-from x [] = refl
+pieces-from x (p ∷ ps) =
+    ap (λ (t : List ℕ). printed x p ++ t) (pieces-from (after x p) ps)
+    ∙ sym (append-assoc (printed x p) (printed (after x p) (joined ps)) (ending (after (after x p) (joined ps))))
+    ∙ ap (λ (t : List ℕ). t ++ ending (after (after x p) (joined ps))) (sym (cut-text x p (joined ps)))
+    ∙ ap (λ (y : Reading). printed x (p ++ joined ps) ++ ending y) (sym (cut-state x p (joined ps)))
+
 pub streams : Streams
 unfolding statementOf
-streams = record { whole = λ bytes. from-line bytes [] _; cut-text = cut-text; cut-state = cut-state }
+streams =
+    record {
+      whole = λ bytes. from-line bytes [] _;
+      cut-text = cut-text;
+      cut-state = cut-state;
+      pieces = λ ps. pieces-from begin ps ∙ from-line (joined ps) [] _;
+    }
 
 -- Where a text fits, a session takes at least one byte of an input that has any.
 pub taken-some : (room : ℕ) (x : Reading) (l : List ℕ) → 1024 ≤ room → 0 < length l → 0 < takenOf room x l

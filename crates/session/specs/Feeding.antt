@@ -48,9 +48,19 @@ unfoldable pub takenOf : ℕ → Reading → List ℕ → ℕ
 takenOf room x [] = zero
 takenOf room x (b ∷ bs) = cond (leb textRoom room) (suc (takenOf (room - length (byteText x b)) (afterByte x b) bs)) zero
 
+-- The input as reads bring it, in pieces: what is printed for each, and at the end.
+unfoldable pub joined : List (List ℕ) → List ℕ
+joined [] = []
+joined (p ∷ ps) = p ++ joined ps
+
+unfoldable pub piecesText : Reading → List (List ℕ) → List ℕ
+piecesText x [] = ending x
+piecesText x (p ∷ ps) = printed x p ++ piecesText (after x p) ps
+
 -- Bytes in, text out: what is printed while they come and at their end is what `statement` prints for them, and where they are cut makes no
--- difference.
+-- difference. By the contracts of the session, feeding it the pieces from the start and finishing writes `piecesText begin` of them.
 pub record Streams : Type 0 where
   pub whole : (bytes : List ℕ) → printed begin bytes ++ ending (after begin bytes) ≡ statementOf bytes
   pub cut-text : (x : Reading) (bytes more : List ℕ) → printed x (bytes ++ more) ≡ printed x bytes ++ printed (after x bytes) more
   pub cut-state : (x : Reading) (bytes more : List ℕ) → after x (bytes ++ more) ≡ after (after x bytes) more
+  pub pieces : (ps : List (List ℕ)) → piecesText begin ps ≡ statementOf (joined ps)
