@@ -7,12 +7,13 @@ use native.Mathlib.Omega.{arith}
 use lib.ListN.{length, getD, drop, set}
 use lib.Seq.{getD-set-other}
 use Rattle.text.specs.Text.{bytesOf}
-use Rattle.grammar.specs.Grammar.{numberIn, monthIn, choiceIn, numbersIn, keyed}
+use Rattle.numerals.specs.Numerals.{numberIn, monthIn, numbersIn}
+use Rattle.numerals.proofs.Digits.{number-long}
+use Rattle.numerals.proofs.Sizes.{Reader, Short, Few, Below, number-few, number-below, month-short, month-few, month-below}
+use Rattle.numerals.proofs.Sizes.{numbers-short, numbers-below, numbers-all}
+use Rattle.grammar.specs.Grammar.{choiceIn, keyed}
 use Rattle.grammar.specs.Grammar.{openingLines, openingLine, billLine, criticalLine, runLine}
-use Rattle.grammar.proofs.Digits.{number-long}
-use Rattle.grammar.proofs.Sizes.{Reader, Short, Few, Below, keyed-either, keyed-short, keyed-few, keyed-below}
-use Rattle.grammar.proofs.Sizes.{number-few, number-below, month-short, month-few, month-below}
-use Rattle.grammar.proofs.Sizes.{choice-short, choice-few, choice-below, numbers-short, numbers-below, numbers-all}
+use Rattle.grammar.proofs.Sizes.{choice-short, choice-few, choice-below, keyed-either, keyed-short, keyed-few, keyed-below}
 
 -- A line that is read by a key.
 record Readable (read : Reader) : Type 0 where

@@ -1,2 +1,2 @@
 pub mod Grammar
-pub mod Reading
+pub mod Kinds

@@ -15,9 +15,9 @@ use Rattle.account.specs.declared.Reply.{Reply}
 use Rattle.account.specs.Account.{openingReply}
 use Rattle.records.specs.Records.{termsAt, pricesAt}
 use Rattle.account.specs.declared.BillingReply.{BillingReply}
-use Rattle.grammar.specs.declared.Numbers.{Numbers}
+use Rattle.numerals.specs.declared.Numbers.{Numbers}
 use Rattle.grammar.specs.Grammar.{openingLine, billLine, criticalLine, runLine}
-use Rattle.grammar.specs.Reading.{numbersAs}
+use Rattle.numerals.specs.Reading.{numbersAs}
 use Rattle.printing.specs.Printing.{billText, openText, lineText}
 use Rattle.printing.specs.Writing.{hasRoom, Wrote, Put}
 use Rattle.progress.specs.Statement.{State, state, Step, printing, nextNumber, stop, opened, openingRead, begun, billRead, withCritical, criticalRead}

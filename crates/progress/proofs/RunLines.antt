@@ -9,9 +9,9 @@ use lib.Dec.{eqb, leb}
 use lib.ListN.{length, getD, take, drop, replicate, length-take, length-drop}
 use lib.Seq.{take-all, drop-drop}
 use Rattle.text.specs.Text.{placeOf}
-use Rattle.grammar.specs.declared.Numbers.{Numbers}
+use Rattle.numerals.specs.declared.Numbers.{Numbers}
 use Rattle.grammar.specs.Grammar.{runLine}
-use Rattle.grammar.specs.Reading.{numbersAs}
+use Rattle.numerals.specs.Reading.{numbersAs}
 use Rattle.progress.specs.declared.Run.{Run}
 use Rattle.progress.specs.declared.Progress.{Progress}
 use Rattle.progress.specs.Statement.{State, state, Month, monthOf, Step, printing, nextNumber, counted, withRun, lineRead}

@@ -7,8 +7,8 @@ use lib.Dec.{eqb, leb}
 use lib.ListN.{length, getD, take, drop}
 use lib.Seq.{sets}
 use Rattle.text.specs.Text.{placeOf}
+use Rattle.numerals.specs.declared.Numbers.{Numbers}
 use Rattle.grammar.specs.Grammar.{runLine}
-use Rattle.grammar.specs.declared.Numbers.{Numbers}
 use Rattle.printing.specs.Writing.{hasRoom, Wrote}
 use Rattle.progress.specs.declared.Progress.{Progress}
 use Rattle.progress.specs.declared.Run.{Run}
@@ -24,7 +24,8 @@ stateOf x delivered received =
 abbrev pub StandsFor : State → Progress → Type 0
 StandsFor s x = (d e : List ℕ) → stateOf x d e ≡ s
 
--- A line was read, where a text fits into the buffer from place i on: what the progress stands for then, and its text. Elsewhere nothing changes.
+-- A line was read, where a text fits into the buffer from place i on: what the progress stands for then, and its text. Elsewhere both
+-- stay as they were.
 pub record Reads (out : List ℕ) (i : ℕ) (before : State) (step : Step) (later : State) (outLater : List ℕ) (j : ℕ) : Type 0 where
   pub state : later ≡ cond (hasRoom out i) (step .state) before
   pub bytes : outLater ≡ cond (hasRoom out i) (sets out i (step .text)) out

@@ -47,7 +47,7 @@ criticalDue = 15
 abbrev pub runDue : ℕ
 runDue = 16
 
--- After a fault no line is.
+-- After a fault no line is due.
 abbrev pub stopped : ℕ
 stopped = 17
 
@@ -85,7 +85,8 @@ stop s = printing (lineText (s .number)) (state (s .number) stopped (s .values) 
 abbrev pub placeOfLine : ℕ → ℕ
 placeOfLine k = cond (leb k 6) k (k + 3)
 
--- "It prints the opening's number once line 14 is read"; xs are the opening's numbers.
+-- "It prints the opening's number once line 14 is read"; xs are the opening's numbers. They stand where the record of an opening has its terms
+-- and prices (`termsAt`, `pricesAt`), with the first month at place 0.
 unfoldable pub opened : List ℕ → State → Step
 opened xs s =
     let r : Reply = openingReply (s .account) (termsAt xs) (pricesAt xs) (getD xs 0 0) in
@@ -147,7 +148,7 @@ laterRead l s =
     (cond (isUnreadable (billLine l)) (stop s)
     (printing (monthEnd s .text) (begun (getD (billLine l) 0 0) (monthEnd s .state))))
 
--- A line, by what is due. After a fault nothing changes and nothing is printed.
+-- A line, by what is due. After a fault it is only counted, and nothing is printed.
 unfoldable pub dueRead : List ℕ → State → Step
 dueRead l s =
     cond (ltb (s .due) billDue) (openingRead (openingLine (s .due) l) s)

@@ -6,13 +6,13 @@ ghost use Prim.Native.Nat.{ℕ, _+_, _-_, _≤_, _<_, min};
 ghost use lib.Dec.{ltb};
 ghost use lib.ListN.{length, take, replicate};
 ghost use Rattle.grammar.specs.Grammar.{openingLine, billLine, criticalLine, runLine};
-ghost use Rattle.grammar.specs.Reading.{numbersAs};
+ghost use Rattle.numerals.specs.Reading.{numbersAs};
 ghost use Rattle.printing.specs.Writing.{hasRoom, Put};
 ghost use Rattle.progress.specs.Statement.{start, runDue, nextNumber, counted, begun, stop, monthReply, opened, openingRead, billRead, criticalRead, runRead, monthEnd, laterRead, dueRead, lineRead, atEnd};
 ghost use Rattle.progress.specs.Progressing.{stateOf, valuesWith, StandsFor, StandsAs, Ends, EndsAs, Reads, runAt, StandsAfter, RunsRead};
 use account::Account;
 use account::BillingReply;
-use grammar::Numbers;
+use numerals::Numbers;
 
 // What is due after the opening's lines.
 const BILL_DUE: u32 = 14;

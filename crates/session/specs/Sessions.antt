@@ -1,15 +1,15 @@
 -- What a session and the buffers lent to it stand for, and what its functions promise.
 use mathlib.Core.Path.{_≡_}
 use mathlib.Core.Bool.{cond}
-use mathlib.Core.List.{List}
-use Prim.Native.Nat.{ℕ, _≤_}
-use lib.Dec.{leb}
+use mathlib.Core.List.{List, [], _∷_, _++_}
+use Prim.Native.Nat.{ℕ, zero, suc, _≤_}
+use lib.Dec.{eqb, leb}
 use lib.ListN.{length, take}
 use lib.Seq.{sets}
 use Rattle.printing.specs.Writing.{Wrote}
 use Rattle.progress.specs.Progressing.{stateOf}
 use Rattle.session.specs.declared.Session.{Session}
-use Rattle.session.specs.Feeding.{Reading, begin, after, printed, ending, takenOf}
+use Rattle.session.specs.Feeding.{keptBytes, Reading, begin, after, printed, ending, takenOf}
 
 -- The bytes of the line that isn't complete yet stand at the front of their buffer.
 abbrev pub readingOf : Session → List ℕ → List ℕ → List ℕ → Reading
@@ -36,3 +36,20 @@ pub record Finishes (before : Reading) (out : List ℕ) (written : ℕ) (outLate
   pub bytes : outLater ≡ cond (leb endRoom (length out)) (sets out 0 (ending before)) out
   pub end : written ≡ cond (leb endRoom (length out)) (length (ending before)) 0
   pub fits : written ≤ length out
+
+-- The rest is what the private functions promise each other. So many bytes are held after more bytes of a line.
+pub record Keeps (line : List ℕ) (held : ℕ) (bytes lineLater : List ℕ) (heldLater : ℕ) : Type 0 where
+  pub front : take heldLater lineLater ≡ take keptBytes (take held line ++ bytes)
+  pub within : heldLater ≤ keptBytes
+
+-- How many bytes there are up to the first newline, with it; all where there is none.
+unfoldable pub lineBytes : List ℕ → ℕ
+lineBytes [] = zero
+lineBytes (b ∷ bs) = suc (cond (eqb b 10) zero (lineBytes bs))
+
+-- They are taken, and a text is written from place i on.
+pub record TakesLine
+    (before : Reading) (input : List ℕ) (out : List ℕ) (i : ℕ) (taken : ℕ) (later : Reading) (j : ℕ) (outLater : List ℕ) : Type 0 where
+  pub takes : taken ≡ lineBytes input
+  pub reading : later ≡ after before (take taken input)
+  pub text : Wrote out i (printed before (take taken input)) outLater j

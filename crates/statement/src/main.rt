@@ -1,7 +1,69 @@
-// The program `statement`: standard input to the library, and what it writes to standard output.
+// The program `statement`: feeds a session with standard input, and writes what it prints to standard output.
+ghost use Prim.Native.Nat.{_≤_};
+ghost use lib.ListN.{length};
 use libc::STDIN_FILENO;
 use libc::STDOUT_FILENO;
 use session::Session;
+
+// A session after bytes, and whether there is a point in reading on: no fault has stopped it, and its texts could be written.
+struct Given {
+    session: Session,
+    goes_on: bool,
+}
+
+// What one read brought: so many bytes, none at the end of the input, or a failure.
+struct Got {
+    bytes: usize,
+    failed: bool,
+}
+
+// Reads once.
+fn read_some(input: &mut [u8]) -> Got
+    ensures { λ r. ⌜ r .bytes ≤ length (now (input .entry)) ⌝ }
+{
+    let got = libc::read(STDIN_FILENO, input);
+    Got {
+        bytes: io::count(got, input),
+        failed: got < 0,
+    }
+}
+
+// Writes the front of a buffer, and says whether that went well.
+fn write_front(out: &[u8], written: usize) -> bool
+    requires { ⌜ written ≤ length (now out) ⌝ }
+{
+    io::write_all(STDOUT_FILENO, &out[..written])
+}
+
+// Gives a session bytes until it has taken all, and writes its texts in between.
+fn give(
+    session: Session,
+    line: &mut [u8; 51],
+    delivered: &mut [u32; 2976],
+    received: &mut [u32; 2976],
+    input: &[u8],
+    out: &mut [u8],
+) -> Given
+    requires { ⌜ 1024 ≤ length (now out) ⌝ }
+{
+    let mut session = session;
+    let mut taken = 0;
+    while taken < input.len() {
+        let fed = session.feed(line, delivered, received, &input[taken..], out);
+        session = fed.session;
+        taken += fed.taken;
+        if !write_front(out, fed.written) {
+            return Given {
+                session,
+                goes_on: false,
+            };
+        }
+    }
+    Given {
+        session,
+        goes_on: !session.is_stopped(),
+    }
+}
 
 fn main() {
     let mut line = [0u8; 51];
@@ -10,37 +72,32 @@ fn main() {
     let mut input = io::large_buffer();
     let mut out = io::large_buffer();
     let mut session = Session::start();
-    let mut from = 0;
-    let mut end = 0;
     // A loop that is proved has to end, and nothing says that the input does: it counts its turns down, from a number that no run uses up.
     let mut turns = u64::MAX;
     while turns > 0 {
         turns -= 1;
-        if from == end {
-            let got = libc::read(STDIN_FILENO, &mut input);
-            if got <= 0 {
-                break;
-            }
-            end = io::count(got, &input);
-            from = 0;
+        let got = read_some(&mut input);
+        // An input that can't be read on isn't at its end, so what is incomplete stays so.
+        if got.failed {
+            return;
         }
-        let fed = session.feed(
+        let end = got.bytes;
+        if end == 0 {
+            break;
+        }
+        let given = give(
+            session,
             &mut line,
             &mut delivered,
             &mut received,
-            &input[from..end],
+            &input[..end],
             &mut out,
         );
-        session = fed.session;
-        from += fed.taken;
-        let written = fed.written;
-        if !io::write_all(STDOUT_FILENO, &out[..written]) {
+        if !given.goes_on {
             return;
         }
-        if session.is_stopped() {
-            return;
-        }
+        session = given.session;
     }
     let written = session.finish(&line, &mut delivered, &mut received, &mut out);
-    io::write_all(STDOUT_FILENO, &out[..written]);
+    write_front(&out, written);
 }

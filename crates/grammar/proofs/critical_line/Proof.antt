@@ -4,16 +4,16 @@ use borrow.Author.Needs.{needs}
 use Rattle.grammar.proofs.critical_line.Statement.{statement}
 use Rattle.grammar.proofs.critical_line.Tie as tie
 
-slice-aggregate-keyed-number : tie.Need-slice-aggregate-keyed-number
-slice-aggregate-keyed-number c = search needs
+slice-aggregate-keyed-value : tie.Need-slice-aggregate-keyed-value
+slice-aggregate-keyed-value c = search needs
 
-keyed-number-requires : tie.Need-keyed-number-requires
-keyed-number-requires c κs = search needs
+keyed-value-requires : tie.Need-keyed-value-requires
+keyed-value-requires c κs = search needs
 
 returns : tie.Need-returns
 unfolding criticalLine
-returns c = c .keyed-number .ensures
+returns c = c .keyed-value .ensures
 
 pub critical-line-spec : {M : Type 1} → statement M
 critical-line-spec =
-    tie.close (tie.spec slice-aggregate-keyed-number keyed-number-requires returns)
+    tie.close (tie.spec slice-aggregate-keyed-value keyed-value-requires returns)

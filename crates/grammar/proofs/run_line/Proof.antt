@@ -4,15 +4,15 @@ use borrow.Author.Needs.{needs}
 use Rattle.grammar.proofs.run_line.Statement.{statement}
 use Rattle.grammar.proofs.run_line.Tie as tie
 
-slice-aggregate-keyed-numbers : tie.Need-slice-aggregate-keyed-numbers
-slice-aggregate-keyed-numbers c = search needs
+slice-aggregate-keyed-value : tie.Need-slice-aggregate-keyed-value
+slice-aggregate-keyed-value c = search needs
 
-keyed-numbers-requires : tie.Need-keyed-numbers-requires
-keyed-numbers-requires c κs = search needs
+keyed-value-requires : tie.Need-keyed-value-requires
+keyed-value-requires c κs = search needs
 
 returns : tie.Need-returns
 unfolding runLine
-returns c = c .keyed-numbers .ensures
+returns c = c .keyed-value .ensures
 
 pub run-line-spec : {M : Type 1} → statement M
-run-line-spec = tie.close (tie.spec slice-aggregate-keyed-numbers keyed-numbers-requires returns)
+run-line-spec = tie.close (tie.spec slice-aggregate-keyed-value keyed-value-requires returns)

@@ -24,7 +24,9 @@ returns : tie.Need-returns Inv-loop μ-loop
 returns c = put-none (c .before .has-room .ensures) (c .if1 .taken)
 
 loop-holds : tie.Need-loop-holds Inv-loop μ-loop
-loop-holds c = starts _ _ _ _ (room-for _ _ _ (c .before .has-room .ensures) (c .if1 .left) (c .before .before .before .before .before .before .pre))
+loop-holds c =
+    let entry = c .before .before .before .before .before .before in
+    starts _ _ _ _ (room-for _ _ _ (c .before .has-room .ensures) (c .if1 .left) (entry .pre))
 
 shared-slice-read-byte : tie.Need-shared-slice-read-byte Inv-loop μ-loop
 shared-slice-read-byte c = omega arith

@@ -1,0 +1,5 @@
+pub mod Digits
+mod Months
+mod Parts
+pub mod Rest
+pub mod Sizes

@@ -1,0 +1,117 @@
+-- What a session has taken and written so far, line by line.
+use mathlib.Core.Path.{_≡_, refl, sym, _∙_, ap}
+use mathlib.Core.Bool.{Bool, true, false, not}
+use mathlib.Core.List.{List, [], _∷_, _++_}
+use Prim.Native.Nat.{ℕ, suc, _+_, _-_, _≤_, _<_}
+use native.Mathlib.Nat.{add-zero, add-suc, suc-add, sub-zero}
+use native.Mathlib.Omega.{arith}
+use borrow.Author.Tests.{leb-true, leb-false, not-true, not-false}
+use lib.ListN.{length, set, take, drop, length-append, length-drop, drop-of-length-le}
+use lib.Seq.{sets, length-sets, take-all, take-add, drop-drop}
+use Rattle.printing.specs.Writing.{hasRoom, Wrote}
+use Rattle.session.specs.Feeding.{Reading, after, printed, takenOf}
+use Rattle.session.specs.Sessions.{Feeds, lineBytes, TakesLine}
+use Rattle.session.proofs.Streams.{cut-text, cut-state}
+use Rattle.session.proofs.Taking.{bytes-some, bytes-within, line-taken, line-text, none-taken}
+
+-- Two lists are written one after the other.
+pub sets-append : (out : List ℕ) (i : ℕ) (xs ys : List ℕ) → sets out i (xs ++ ys) ≡ sets (sets out i xs) (i + length xs) ys
+sets-append out i [] ys = rw add-zero
+sets-append out i (x ∷ xs) ys = sets-append (set out i x) (suc i) xs ys ∙ rw (add-suc, suc-add)
+
+-- A text is written, and then another.
+pub then : {o o1 o2 xs ys : List ℕ} {i j k : ℕ} → Wrote o i xs o1 j → Wrote o1 j ys o2 k → Wrote o i (xs ++ ys) o2 k
+then {o} {o1} {o2} {xs} {ys} {i} {j} {k} p q =
+    record {
+      bytes = q .bytes ∙ rw (p .bytes, p .end) (sym (sets-append o i xs ys));
+      end = rw length-append (omega arith);
+    }
+
+pub record Going (before : Reading) (input out : List ℕ) (taken : ℕ) (current : Reading) (written : ℕ) (outCurrent : List ℕ) : Type 0 where
+  pub takes : takenOf (length out) before input ≡ taken + takenOf (length out - written) current (drop taken input)
+  pub reading : current ≡ after before (take taken input)
+  pub text : Wrote out 0 (printed before (take taken input)) outCurrent written
+  pub inside : taken ≤ length input
+  pub fits : written ≤ length out
+
+-- At the start.
+pub going-start : (before : Reading) (input out : List ℕ) → Going before input out 0 before 0 out
+unfolding after printed
+going-start before input out =
+    record {
+      takes = rw (sub-zero (length out)) (omega arith);
+      reading = refl;
+      text = record { bytes = refl; end = refl };
+      inside = omega arith;
+      fits = omega arith;
+    }
+
+pub same-long : {before current : Reading} {input out outCurrent : List ℕ} {taken written : ℕ}
+    → Going before input out taken current written outCurrent → length outCurrent ≡ length out
+same-long g = ap length (g .text .bytes) ∙ simp length-sets
+
+room-left : (out : List ℕ) (i : ℕ) → hasRoom out i ≡ true → i + 1024 ≤ length out
+unfolding hasRoom
+room-left out i h = leb-true _ _ h
+
+no-room : (out : List ℕ) (i : ℕ) → hasRoom out i ≡ false → length out < i + 1024
+unfolding hasRoom
+no-room out i h = leb-false _ _ h
+
+pub room-yes : (out : List ℕ) (i : ℕ) (r : Bool) → r ≡ hasRoom out i → not r ≡ false → hasRoom out i ≡ true
+room-yes out i r e f = sym e ∙ not-false r f
+
+pub room-none : (out : List ℕ) (i : ℕ) (r : Bool) → r ≡ hasRoom out i → not r ≡ true → hasRoom out i ≡ false
+room-none out i r e f = sym e ∙ not-true r f
+
+-- What is left of the input.
+pub rest-of : (input : List ℕ) (taken : ℕ) → take (length input - taken) (drop taken input) ≡ drop taken input
+rest-of input taken = take-all (length input - taken) (drop taken input) (omega (arith, length-drop taken input))
+
+-- One line more.
+pub more-taken : (input : List ℕ) (taken t : ℕ) → taken < length input → t ≡ lineBytes (take (length input - taken) (drop taken input))
+    → (0 < t) × (taken + t ≤ length input)
+more-taken input taken t h e =
+    let made = rw (rest-of input taken) at e in
+    let long = length-drop taken input in
+    (omega (arith, bytes-some (drop taken input) (omega arith)), omega (arith, bytes-within (drop taken input)))
+
+module _ {before current later : Reading} {input out outCurrent outLater : List ℕ} {taken written t j : ℕ} where
+  pub going-more : Going before input out taken current written outCurrent → taken < length input → hasRoom outCurrent written ≡ true
+      → TakesLine current (take (length input - taken) (drop taken input)) outCurrent written t later j outLater
+      → Going before input out (taken + t) later j outLater
+  going-more g h room made =
+      let rest = drop taken input in
+      let l = rw (rest-of input taken) at made in
+      let left : written + 1024 ≤ length out = omega (arith, room-left outCurrent written room, same-long g) in
+      let text = printed current (take t rest) in
+      let short : length text ≤ 1024 = rw (l .takes) (line-text current rest) in
+      let both : take (taken + t) input ≡ take taken input ++ take t rest = take-add taken t input in
+      let state : after before (take (taken + t) input) ≡ later
+      = rw (both, cut-state before (take taken input) (take t rest), ← g .reading) (sym (l .reading)) in
+      let texts : printed before (take (taken + t) input) ≡ printed before (take taken input) ++ text
+      = rw (both, cut-text before (take taken input) (take t rest), ← g .reading) in
+      let room-later : length out - written - length text ≡ length out - j = omega (arith, l .text .end) in
+      let line = line-taken (length out - written) current rest (omega arith) in
+      record {
+        takes = let later-taken = rw (← l .takes, room-later, ← l .reading, drop-drop) at line in omega (arith, g .takes);
+        reading = sym state;
+        text = rw texts (then (g .text) (l .text));
+        inside = more-taken input taken t h (made .takes) .1;
+        fits = omega (arith, l .text .end);
+      }
+
+-- Without room, and at the end of the input, it stops.
+module _ {before current : Reading} {input out outCurrent : List ℕ} {taken written : ℕ} where
+  pub going-none : Going before input out taken current written outCurrent → hasRoom outCurrent written ≡ false
+      → Feeds before input out taken current written outCurrent
+  going-none g room =
+      let none = none-taken (length out - written) current (drop taken input) (omega (arith, no-room outCurrent written room, same-long g)) in
+      record { takes = omega (arith, g .takes); reading = g .reading; text = g .text; inside = g .inside; fits = g .fits }
+
+  pub going-all : Going before input out taken current written outCurrent → length input ≤ taken
+      → Feeds before input out taken current written outCurrent
+  unfolding takenOf
+  going-all g h =
+      let none : takenOf (length out - written) current (drop taken input) ≡ 0 = rw (drop-of-length-le input h) in
+      record { takes = omega (arith, g .takes); reading = g .reading; text = g .text; inside = g .inside; fits = g .fits }

@@ -1,0 +1,7 @@
+mod Lines
+mod Keeping
+mod Taking
+mod Turns
+mod Going
+mod Ending
+pub mod Streams

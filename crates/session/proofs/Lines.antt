@@ -1,0 +1,107 @@
+-- What a line gives is told by its first 51 bytes, and each text fits where there is room.
+use mathlib.Core.Path.{_≡_, refl, sym, _∙_, ap}
+use mathlib.Core.Bool.{Bool, true, false, cond, not, _||_}
+use mathlib.Core.List.{List, [], _∷_}
+use Prim.Native.Nat.{ℕ, zero, suc, _+_, _≤_, _<_}
+use native.Mathlib.Omega.{arith}
+use borrow.Author.Tests.{leb-true, leb-false}
+use lib.Dec.{eqb, leb, ltb}
+use lib.ListN.{length, getD, take}
+use lib.Seq.{length-take-le, take-all}
+use Rattle.grammar.specs.Grammar.{openingLine, billLine, criticalLine, runLine}
+use Rattle.grammar.proofs.Laws.{opening-short, bill-short, critical-short, run-short}
+use Rattle.printing.specs.Printing.{lineText}
+use Rattle.printing.proofs.Laws.{bill-fits, open-fits, line-fits}
+use Rattle.progress.specs.Statement.{State, Step, counted, stop, opened, openingRead, billRead, criticalRead, runRead, monthEnd, laterRead}
+use Rattle.progress.specs.Statement.{dueRead, lineRead, atEnd, billDue, criticalDue, runDue, printing, nextNumber, isUnreadable}
+
+-- All lines of more than 50 bytes are read alike: they are unreadable.
+long-alike : (l m : List ℕ) (s : State) → 50 < length l → 50 < length m → lineRead l s ≡ lineRead m s
+unfolding lineRead dueRead laterRead
+long-alike l m s h k =
+    simp (
+      opening-short (counted s .due) l h,
+      bill-short l h,
+      critical-short l h,
+      run-short l h,
+      opening-short (counted s .due) m k,
+      bill-short m k,
+      critical-short m k,
+      run-short m k,
+    )
+
+-- So of a line 51 bytes are enough.
+pub line-cut : (l : List ℕ) (s : State) → lineRead (take 51 l) s ≡ lineRead l s
+line-cut l s = by (leb (length l) 51) refl
+  where
+    by : (t : Bool) → leb (length l) 51 ≡ t → lineRead (take 51 l) s ≡ lineRead l s
+    by true e = rw (take-all 51 l (leb-true _ _ e))
+    by false e =
+        let h : 51 < length l = leb-false _ _ e in
+        long-alike (take 51 l) l s (omega (arith, length-take-le 51 l (omega arith))) (omega arith)
+
+-- A text that a step prints fits.
+record Fits (x : Step) : Type 0 where
+  pub long : length (x .text) ≤ 1024
+
+either : (t : Bool) {x y : Step} → Fits x → Fits y → Fits (cond t x y)
+either true p q = p
+either false p q = q
+
+none : (s : State) → Fits (printing [] s)
+none s = record { long = omega arith }
+
+stop-fits : (s : State) → Fits (stop s)
+unfolding stop
+stop-fits s = record { long = omega (arith, line-fits (s .number)) }
+
+opened-fits : (xs : List ℕ) (s : State) → Fits (opened xs s)
+unfolding opened
+opened-fits xs s = let h : length (opened xs s .text) ≤ 32 = open-fits _ in record { long = omega arith }
+
+month-fits : (s : State) → length (monthEnd s .text) ≤ 1024
+unfolding monthEnd
+month-fits s = let h : length (monthEnd s .text) ≤ 1024 = bill-fits _ _ _ in omega arith
+
+opening-fits : (v : List ℕ) (s : State) → Fits (openingRead v s)
+unfolding openingRead
+opening-fits v s = either (isUnreadable v) (stop-fits s) (either (ltb (s .due) 13) (none _) (opened-fits _ s))
+
+month-line-fits : (v : List ℕ) (s : State) → Fits (billRead v s)
+unfolding billRead
+month-line-fits v s = either (isUnreadable v) (stop-fits s) (none _)
+
+critical-fits : (v : List ℕ) (s : State) → Fits (criticalRead v s)
+unfolding criticalRead
+critical-fits v s = either (isUnreadable v) (stop-fits s) (none _)
+
+run-fits : (n d e : ℕ) (s : State) → Fits (runRead n d e s)
+unfolding runRead
+run-fits n d e s = either (ltb 2976 (length (s .entered .delivered) + n)) (stop-fits s) (none _)
+
+later-fits : (l : List ℕ) (s : State) → Fits (laterRead l s)
+unfolding laterRead
+later-fits l s =
+    either (not (isUnreadable (runLine l))) (run-fits (getD (runLine l) 0 0) (getD (runLine l) 1 0) (getD (runLine l) 2 0) s)
+    (either (isUnreadable (billLine l)) (stop-fits s) (record { long = month-fits s }))
+
+due-fits : (l : List ℕ) (s : State) → Fits (dueRead l s)
+unfolding dueRead
+due-fits l s =
+    either (ltb (s .due) billDue) (opening-fits (openingLine (s .due) l) s)
+    (either (eqb (s .due) billDue) (month-line-fits (billLine l) s)
+    (either (eqb (s .due) criticalDue) (critical-fits (criticalLine l) s) (either (eqb (s .due) runDue) (later-fits l s) (none s))))
+
+pub text-fits : (l : List ℕ) (s : State) → length (lineRead l s .text) ≤ 1024
+unfolding lineRead
+text-fits l s = due-fits l (counted s) .long
+
+-- The same of what the end of the input prints.
+pub end-fits : (s : State) → length (atEnd s) ≤ 1024
+unfolding atEnd
+end-fits s = by (eqb (s .due) billDue || ltb runDue (s .due)) (eqb (s .due) runDue)
+  where
+    by : (t u : Bool) → length (cond t [] (cond u (monthEnd s .text) (lineText (nextNumber (s .number))))) ≤ 1024
+    by true u = omega arith
+    by false true = month-fits s
+    by false false = omega (arith, line-fits (nextNumber (s .number)))

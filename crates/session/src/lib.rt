@@ -1,0 +1,193 @@
+// `statement` fed with bytes as they come.
+ghost use mathlib.Core.Path.{_≡_};
+ghost use mathlib.Core.Bool.{true};
+ghost use Prim.Native.Nat.{_≤_, min};
+ghost use lib.Dec.{ltb};
+ghost use lib.ListN.{length, take};
+ghost use Rattle.printing.specs.Writing.{hasRoom};
+ghost use Rattle.progress.specs.Statement.{runDue, lineRead};
+ghost use Rattle.progress.specs.Progressing.{stateOf, Reads};
+ghost use Rattle.session.specs.Sessions.{readingOf, Begins, Feeds, Finishes, Keeps, TakesLine};
+use progress::Ended;
+use progress::Progress;
+
+// The most bytes that are kept of a line that isn't complete yet.
+const KEPT_BYTES: usize = 51;
+
+// Room for the last two texts.
+const END_ROOM: usize = 2048;
+
+const NEWLINE: u8 = 10;
+
+// The progress of the lines so far, and how many bytes are held of the line that isn't complete yet. They stand at the front of a buffer that
+// the caller lends, and the month's readings at the front of two registers: lend the same ones at each call, as the call before left them.
+pub struct Session {
+    held: usize,
+    progress: Progress,
+}
+
+// A session after bytes, how many it took, and how many bytes of text it wrote.
+pub struct Fed {
+    pub session: Session,
+    pub taken: usize,
+    pub written: usize,
+}
+
+// The smaller of two.
+fn least(a: usize, b: usize) -> usize
+    ensures { λ r. ⌜ r ≡ min a b ⌝ }
+{
+    if a < b {
+        return a;
+    }
+    b
+}
+
+// Keeps more bytes of a line that isn't complete yet, and says how many are held then.
+fn keep(line: &mut [u8], held: usize, bytes: &[u8]) -> usize
+    requires { ⌜ length (now line) ≡ 51 ⌝ }
+    ensures { λ r. ⌜ Keeps (now (line .entry)) held (now (bytes .entry)) (now (line .exit)) r ⌝ }
+{
+    let start = least(held, KEPT_BYTES);
+    let more = least(KEPT_BYTES - start, bytes.len());
+    let mut place = 0;
+    while place < more {
+        line[start + place] = bytes[place];
+        place += 1;
+    }
+    start + more
+}
+
+// Reads the line whose bytes are held.
+fn read_held(
+    progress: Progress,
+    line: &[u8],
+    held: usize,
+    delivered: &mut [u32; 2976],
+    received: &mut [u32; 2976],
+    out: &mut [u8],
+    at: usize,
+) -> Ended
+    requires { ⌜ held ≤ length (now line) ⌝ }
+    ensures { λ r. ⌜ Reads (now (out .entry)) at (stateOf progress (now (delivered .entry)) (now (received .entry))) (lineRead (take held (now (line .entry))) (stateOf progress (now (delivered .entry)) (now (received .entry)))) (stateOf (r .progress) (now (delivered .exit)) (now (received .exit))) (now (out .exit)) (r .at) ⌝ }
+{
+    progress.read_line(&line[..held], delivered, received, out, at)
+}
+
+// Takes the bytes up to the first newline, and reads the line that it ends; or takes all bytes, where there is none.
+fn take_line(
+    session: Session,
+    line: &mut [u8; 51],
+    delivered: &mut [u32; 2976],
+    received: &mut [u32; 2976],
+    input: &[u8],
+    out: &mut [u8],
+    at: usize,
+) -> Fed
+    requires { ⌜ hasRoom (now out) at ≡ true ⌝ }
+    ensures { λ r. ⌜ TakesLine (readingOf session (now (line .entry)) (now (delivered .entry)) (now (received .entry))) (now (input .entry)) (now (out .entry)) at (r .taken) (readingOf (r .session) (now (line .exit)) (now (delivered .exit)) (now (received .exit))) (r .written) (now (out .exit)) ⌝ }
+{
+    let progress = session.progress;
+    let end = text::place_of(NEWLINE, input);
+    let held = keep(line, session.held, &input[..end]);
+    if end == input.len() {
+        return Fed {
+            session: Session { held, progress },
+            taken: end,
+            written: at,
+        };
+    }
+    let ended = read_held(progress, line, held, delivered, received, out, at);
+    let after = ended.progress;
+    Fed {
+        session: Session {
+            held: 0,
+            progress: after,
+        },
+        taken: end + 1,
+        written: ended.at,
+    }
+}
+
+impl Session {
+    // Nothing has been read.
+    pub fn start() -> Session
+        ensures { λ r. ⌜ Begins r ⌝ }
+    {
+        let progress = Progress::start();
+        Session { held: 0, progress }
+    }
+
+    // Whether a fault has stopped it.
+    pub fn is_stopped(self) -> bool
+        ensures { λ r. ⌜ r ≡ ltb runDue (self .progress .due) ⌝ }
+    {
+        let progress = self.progress;
+        progress.is_stopped()
+    }
+
+    // Takes bytes as long as any one text still fits into the buffer for texts.
+    pub fn feed(
+        self,
+        line: &mut [u8; 51],
+        delivered: &mut [u32; 2976],
+        received: &mut [u32; 2976],
+        input: &[u8],
+        out: &mut [u8],
+    ) -> Fed
+        ensures { λ r. ⌜ Feeds (readingOf self (now (line .entry)) (now (delivered .entry)) (now (received .entry))) (now (input .entry)) (now (out .entry)) (r .taken) (readingOf (r .session) (now (line .exit)) (now (delivered .exit)) (now (received .exit))) (r .written) (now (out .exit)) ⌝ }
+    {
+        let mut session = self;
+        let mut taken = 0;
+        let mut written = 0;
+        while taken < input.len() {
+            if !printing::has_room(out, written) {
+                return Fed {
+                    session,
+                    taken,
+                    written,
+                };
+            }
+            let fed = take_line(
+                session,
+                line,
+                delivered,
+                received,
+                &input[taken..],
+                out,
+                written,
+            );
+            session = fed.session;
+            taken += fed.taken;
+            written = fed.written;
+        }
+        Fed {
+            session,
+            taken,
+            written,
+        }
+    }
+
+    // The end of the input: writes the texts that are left, where there is room for them, and says how many bytes they have.
+    pub fn finish(
+        self,
+        line: &[u8; 51],
+        delivered: &mut [u32; 2976],
+        received: &mut [u32; 2976],
+        out: &mut [u8],
+    ) -> usize
+        ensures { λ r. ⌜ Finishes (readingOf self (now (line .entry)) (now (delivered .entry)) (now (received .entry))) (now (out .entry)) r (now (out .exit)) ⌝ }
+    {
+        if out.len() < END_ROOM {
+            return 0;
+        }
+        let progress = self.progress;
+        let held = least(self.held, KEPT_BYTES);
+        if held == 0 {
+            return progress.finish(delivered, received, out, 0);
+        }
+        let ended = read_held(progress, line, held, delivered, received, out, 0);
+        let after = ended.progress;
+        after.finish(delivered, received, out, ended.at)
+    }
+}

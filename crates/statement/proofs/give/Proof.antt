@@ -1,0 +1,107 @@
+-- `statement::give` ends, since a session takes at least one byte where a text fits.
+use mathlib.Core.Path.{_≡_, refl, _∙_}
+use Prim.Native.Nat.{_≤_, _-_}
+use native.Mathlib.Omega.{arith}
+use borrow.Author.Needs.{needs}
+use lib.ListN.{length}
+use Rattle.statement.proofs.Rest.{rest-within, rest-some}
+use Rattle.statement.proofs.give.Statement.{statement}
+use Rattle.statement.proofs.give.Tie as tie
+
+abbrev Inv-loop : tie.InvT-loop
+Inv-loop line₀ delivered₀ received₀ input out₀ session₀ taken₀ line delivered received out session taken =
+    (taken ≤ length input) × (length out ≡ length out₀)
+
+abbrev μ-loop : tie.MeasureT-loop
+μ-loop line₀ delivered₀ received₀ input out₀ session₀ taken₀ line delivered received out session taken =
+    length input - taken
+
+loop-holds : tie.Need-loop-holds Inv-loop μ-loop
+loop-holds c = (omega arith, refl)
+
+sub-feed : tie.Need-sub-feed Inv-loop μ-loop
+sub-feed c = omega arith
+
+part-feed-start : tie.Need-part-feed-start Inv-loop μ-loop
+part-feed-start c = omega arith
+
+part-feed-end : tie.Need-part-feed-end Inv-loop μ-loop
+part-feed-end c = omega arith
+
+feed-requires : tie.Need-feed-requires Inv-loop μ-loop
+feed-requires c κs = search needs
+
+add-taken : tie.Need-add-taken Inv-loop μ-loop
+add-taken c =
+    let fed = c .before .before .before .before in
+    let inside = fed .before .before .before .before .before .before in
+    let start = inside .before .before .before .before in
+    omega (
+      arith,
+      start .good .1 .1 .1 .1 .0 .0,
+      rest-within (start .args .input .now) (inside .before .loop .taken) (fed .feed .result .taken) (inside .loop-test .taken) (fed .feed .ensures .inside),
+    )
+
+write-front-requires : tie.Need-write-front-requires Inv-loop μ-loop
+write-front-requires c κs =
+    let fed = c .before .before .before .before .before in
+    omega (arith, fed .feed .ensures .fits, fed .feed .kept .1 .1 .1 .1 .1 .0)
+
+same-length : tie.Need-same-length Inv-loop μ-loop
+same-length c =
+    let fed = c .before .before .before .before .before .before .before in
+    fed .feed .kept .1 .1 .1 .1 .1 .0 ∙ fed .before .before .before .before .before .before .before .loop .inv .1
+
+returns : tie.Need-returns Inv-loop μ-loop
+returns c = search needs
+
+loop-less : tie.Need-loop-less Inv-loop μ-loop
+loop-less c =
+    let fed = c .before .before .before .before .before .before .before in
+    let inside = fed .before .before .before .before .before .before in
+    let start = inside .before .before .before .before in
+    omega (
+      arith,
+      rest-within (start .args .input .now) (inside .before .loop .taken) (fed .feed .result .taken) (inside .loop-test .taken) (fed .feed .ensures .inside),
+      rest-some (start .args .input .now) (inside .before .loop .out) (inside .before .loop .taken) (fed .feed .result .taken) _ (inside .loop-test .taken)
+          (omega (arith, inside .before .loop .inv .1, start .pre)) (fed .feed .ensures .takes),
+    )
+
+loop-again : tie.Need-loop-again Inv-loop μ-loop
+loop-again c =
+    let fed = c .before .before .before .before .before .before .before in
+    let inside = fed .before .before .before .before .before .before in
+    let start = inside .before .before .before .before in (
+      rest-within (start .args .input .now) (inside .before .loop .taken) (fed .feed .result .taken) (inside .loop-test .taken) (fed .feed .ensures .inside),
+      fed .feed .kept .1 .1 .1 .1 .1 .0 ∙ inside .before .loop .inv .1,
+    )
+
+is-stopped-requires : tie.Need-is-stopped-requires Inv-loop μ-loop
+is-stopped-requires c κs = search needs
+
+same-length-2 : tie.Need-same-length-2 Inv-loop μ-loop
+same-length-2 c = c .before .before .loop .inv .1
+
+returns-2 : tie.Need-returns-2 Inv-loop μ-loop
+returns-2 c = search needs
+
+pub give-spec : {M : Type 1} → statement M
+give-spec =
+    tie.close
+    (tie.spec
+    Inv-loop
+    μ-loop
+    loop-holds
+    sub-feed
+    part-feed-start
+    part-feed-end
+    feed-requires
+    add-taken
+    write-front-requires
+    same-length
+    returns
+    loop-less
+    loop-again
+    is-stopped-requires
+    same-length-2
+    returns-2)
