@@ -1,3 +1,4 @@
 mod Lines
 mod Runs
+pub mod RunLines
 pub mod Stores

@@ -1,15 +1,18 @@
 -- What the progress and the registers lent with it stand for, and what its functions promise.
 use mathlib.Core.Path.{_≡_}
-use mathlib.Core.Bool.{cond}
+use mathlib.Core.Bool.{Bool, false, cond, _&&_}
 use mathlib.Core.List.{List, [], _∷_}
-use Prim.Native.Nat.{ℕ, _+_}
-use lib.Dec.{eqb}
-use lib.ListN.{length, take}
+use Prim.Native.Nat.{ℕ, zero, suc, _+_}
+use lib.Dec.{eqb, leb}
+use lib.ListN.{length, getD, take, drop}
 use lib.Seq.{sets}
+use Rattle.text.specs.Text.{placeOf}
 use Rattle.numerals.specs.declared.Numbers.{Numbers}
+use Rattle.grammar.specs.Grammar.{runLine}
 use Rattle.printing.specs.Writing.{hasRoom, Wrote}
 use Rattle.progress.specs.declared.Progress.{Progress}
-use Rattle.progress.specs.Statement.{State, state, monthOf, Step, placeOfLine}
+use Rattle.progress.specs.declared.Run.{Run}
+use Rattle.progress.specs.Statement.{State, state, monthOf, Step, placeOfLine, isUnreadable, mostReadings, runDue, lineRead}
 
 -- The readings of the month stand at the front of the two registers.
 abbrev pub stateOf : Progress → List ℕ → List ℕ → State
@@ -28,6 +31,34 @@ pub record Reads (out : List ℕ) (i : ℕ) (before : State) (step : Step) (late
   pub bytes : outLater ≡ cond (hasRoom out i) (sets out i (step .text)) out
   pub end : j ≡ cond (hasRoom out i) (i + length (step .text)) i
 
+-- The line that ends at the first newline of an input.
+abbrev pub lineAt : List ℕ → List ℕ
+lineAt l = take (placeOf 10 l) l
+
+-- Whether it is complete, a readable run line, and fits after so many readings.
+unfoldable pub isRun : List ℕ → ℕ → Bool
+isRun l filled =
+    cond (eqb (placeOf 10 l) (length l)) false
+    (cond (isUnreadable (runLine (lineAt l))) false (leb (filled + getD (runLine (lineAt l)) 0 0) mostReadings))
+
+unfoldable pub isRunDue : List ℕ → State → Bool
+isRunDue l s = eqb (s .due) runDue && isRun l (length (s .entered .delivered))
+
+-- How many bytes the run lines at the front of an input have, and the state after them; n bounds how many lines they are.
+unfoldable pub runsBytes : ℕ → List ℕ → State → ℕ
+runsBytes zero l s = zero
+runsBytes (suc n) l s =
+    cond (isRunDue l s) (placeOf 10 l + 1 + runsBytes n (drop (placeOf 10 l + 1) l) (lineRead (lineAt l) s .state)) zero
+
+unfoldable pub runsState : ℕ → List ℕ → State → State
+runsState zero l s = s
+runsState (suc n) l s = cond (isRunDue l s) (runsState n (drop (placeOf 10 l + 1) l) (lineRead (lineAt l) s .state)) s
+
+-- They were read.
+pub record RunsRead (before : State) (input : List ℕ) (taken : ℕ) (later : State) : Type 0 where
+  pub takes : taken ≡ runsBytes (length input) input before
+  pub state : later ≡ runsState (length input) input before
+
 -- The rest is what the private functions promise each other: the same where a text fits.
 pub record Ends (out : List ℕ) (i : ℕ) (step : Step) (later : State) (outLater : List ℕ) (j : ℕ) : Type 0 where
   pub state : later ≡ step .state
@@ -44,3 +75,23 @@ EndsAs f out i before later outLater j = (d e : List ℕ) → Ends out i (f (sta
 unfoldable pub valuesWith : List ℕ → ℕ → Numbers → List ℕ
 valuesWith xs due v =
     cond (eqb due 6) (sets xs 6 (v .first ∷ v .second ∷ v .third ∷ v .fourth ∷ [])) (sets xs (placeOfLine due) (v .first ∷ []))
+
+-- The run line at the front of an input, where it fits after so many readings.
+unfoldable pub runAt : List ℕ → ℕ → Run
+runAt l filled =
+    cond (isRun l filled)
+    (record {
+      bytes = placeOf 10 l + 1;
+      count = getD (runLine (lineAt l)) 0 0;
+      delivered = getD (runLine (lineAt l)) 1 0;
+      received = getD (runLine (lineAt l)) 2 0;
+    })
+    (record { bytes = 0; count = 0; delivered = 0; received = 0 })
+
+-- Whatever the registers hold, the later progress has this number of lines, and so many readings at their fronts.
+abbrev pub ranTo : Progress → ℕ → List ℕ → List ℕ → State
+ranTo x number delivered received =
+    state number (x .due) (x .values) (x .account) (monthOf (x .month) (x .critical) delivered received)
+
+abbrev pub StandsAfter : Progress → ℕ → ℕ → Progress → Type 0
+StandsAfter before number filled later = (d e : List ℕ) → stateOf later d e ≡ ranTo before number (take filled d) (take filled e)

@@ -9,7 +9,7 @@ ghost use Rattle.grammar.specs.Grammar.{openingLine, billLine, criticalLine, ru
 ghost use Rattle.numerals.specs.Reading.{numbersAs};
 ghost use Rattle.printing.specs.Writing.{hasRoom, Put};
 ghost use Rattle.progress.specs.Statement.{start, runDue, nextNumber, counted, begun, stop, monthReply, opened, openingRead, billRead, criticalRead, runRead, monthEnd, laterRead, dueRead, lineRead, atEnd};
-ghost use Rattle.progress.specs.Progressing.{stateOf, valuesWith, StandsFor, StandsAs, Ends, EndsAs, Reads};
+ghost use Rattle.progress.specs.Progressing.{stateOf, valuesWith, StandsFor, StandsAs, Ends, EndsAs, Reads, runAt, StandsAfter, RunsRead};
 use account::Account;
 use account::BillingReply;
 use numerals::Numbers;
@@ -22,6 +22,8 @@ const CRITICAL_DUE: u32 = 15;
 const RUN_DUE: u32 = 16;
 
 const STOPPED: u32 = 17;
+
+const NEWLINE: u8 = 10;
 
 // The most readings of a month.
 const MOST_READINGS: usize = 2976;
@@ -41,6 +43,20 @@ pub struct Progress {
 pub struct Ended {
     pub progress: Progress,
     pub at: usize,
+}
+
+// The progress after the run lines at the front of an input, and how many bytes they have.
+pub struct Ran {
+    pub progress: Progress,
+    pub taken: usize,
+}
+
+// A run line at the front of an input: its bytes with its newline, its readings, and what each of them is. No bytes where there is none to take.
+struct Run {
+    bytes: usize,
+    count: usize,
+    delivered: u32,
+    received: u32,
 }
 
 // The number of the next line.
@@ -306,6 +322,47 @@ fn later_line(
     }
 }
 
+// The run line at the front of an input, where it is complete, readable and fits after so many readings.
+fn next_run(input: &[u8], filled: usize) -> Run
+    requires { ⌜ filled ≤ 2976 ⌝ }
+    ensures { λ r. ⌜ r ≡ runAt (now (input .entry)) filled ⌝ }
+{
+    let none = Run {
+        bytes: 0,
+        count: 0,
+        delivered: 0,
+        received: 0,
+    };
+    let end = text::place_of(NEWLINE, input);
+    if end == input.len() {
+        return none;
+    }
+    let numbers = grammar::run_line(&input[..end]);
+    if numbers.count == 0 {
+        return none;
+    }
+    let count = numbers.first as usize;
+    if MOST_READINGS < filled + count {
+        return none;
+    }
+    Run {
+        bytes: end + 1,
+        count,
+        delivered: numbers.second,
+        received: numbers.third,
+    }
+}
+
+// The progress after run lines.
+fn with_runs(progress: Progress, number: u64, filled: usize) -> Progress
+    ensures { λ r. ⌜ StandsAfter progress number filled r ⌝ }
+{
+    let mut next = progress;
+    next.number = number;
+    next.filled = filled;
+    next
+}
+
 // A line, by what is due.
 fn due_line(
     progress: Progress,
@@ -373,6 +430,44 @@ impl Progress {
             return due_line(count(self), line, delivered, received, out, at);
         }
         Ended { progress: self, at }
+    }
+
+    // Reads the run lines at the front of an input, as long as each is complete, readable and fits. They print nothing.
+    pub fn read_runs(
+        self,
+        input: &[u8],
+        delivered: &mut [u32; 2976],
+        received: &mut [u32; 2976],
+    ) -> Ran
+        ensures { λ r. ⌜ RunsRead (stateOf self (now (delivered .entry)) (now (received .entry))) (now (input .entry)) (r .taken) (stateOf (r .progress) (now (delivered .exit)) (now (received .exit))) ⌝ }
+    {
+        if self.due != RUN_DUE {
+            return Ran {
+                progress: self,
+                taken: 0,
+            };
+        }
+        let mut number = self.number;
+        let mut filled = readings(received, readings(delivered, self.filled));
+        let mut taken = 0;
+        while taken < input.len() {
+            let run = next_run(&input[taken..], filled);
+            if run.bytes == 0 {
+                return Ran {
+                    progress: with_runs(self, number, filled),
+                    taken,
+                };
+            }
+            fill(delivered, filled, filled + run.count, run.delivered);
+            fill(received, filled, filled + run.count, run.received);
+            number = next_number(number);
+            filled += run.count;
+            taken += run.bytes;
+        }
+        Ran {
+            progress: with_runs(self, number, filled),
+            taken,
+        }
     }
 
     // The end of the input after a whole line: writes the text that is left, where there is room, and says where it ends.

@@ -10,9 +10,9 @@ use lib.ListN.{length, set, take, drop, length-append, length-drop, drop-of-leng
 use lib.Seq.{sets, length-sets, take-all, take-add, drop-drop}
 use Rattle.printing.specs.Writing.{hasRoom, Wrote}
 use Rattle.session.specs.Feeding.{Reading, after, printed, takenOf}
-use Rattle.session.specs.Sessions.{Feeds, lineBytes, TakesLine}
+use Rattle.session.specs.Sessions.{Feeds, Takes}
 use Rattle.session.proofs.Streams.{cut-text, cut-state}
-use Rattle.session.proofs.Taking.{bytes-some, bytes-within, line-taken, line-text, none-taken}
+use Rattle.session.proofs.Taking.{none-taken}
 
 -- Two lists are written one after the other.
 pub sets-append : (out : List ℕ) (i : ℕ) (xs ys : List ℕ) → sets out i (xs ++ ys) ≡ sets (sets out i xs) (i + length xs) ys
@@ -68,36 +68,36 @@ room-none out i r e f = sym e ∙ not-true r f
 pub rest-of : (input : List ℕ) (taken : ℕ) → take (length input - taken) (drop taken input) ≡ drop taken input
 rest-of input taken = take-all (length input - taken) (drop taken input) (omega (arith, length-drop taken input))
 
--- One line more.
-pub more-taken : (input : List ℕ) (taken t : ℕ) → taken < length input → t ≡ lineBytes (take (length input - taken) (drop taken input))
-    → (0 < t) × (taken + t ≤ length input)
-more-taken input taken t h e =
-    let made = rw (rest-of input taken) at e in
+-- Some bytes more.
+pub more-taken : {before later : Reading} {out outLater : List ℕ} {i j : ℕ} (input : List ℕ) (taken t : ℕ) → taken < length input
+    → Takes before (take (length input - taken) (drop taken input)) out i t later j outLater → (0 < t) × (taken + t ≤ length input)
+more-taken input taken t h made =
+    let l = rw (rest-of input taken) at made in
     let long = length-drop taken input in
-    (omega (arith, bytes-some (drop taken input) (omega arith)), omega (arith, bytes-within (drop taken input)))
+    (l .some (omega arith), omega (arith, l .inside))
 
 module _ {before current later : Reading} {input out outCurrent outLater : List ℕ} {taken written t j : ℕ} where
   pub going-more : Going before input out taken current written outCurrent → taken < length input → hasRoom outCurrent written ≡ true
-      → TakesLine current (take (length input - taken) (drop taken input)) outCurrent written t later j outLater
+      → Takes current (take (length input - taken) (drop taken input)) outCurrent written t later j outLater
       → Going before input out (taken + t) later j outLater
   going-more g h room made =
       let rest = drop taken input in
       let l = rw (rest-of input taken) at made in
       let left : written + 1024 ≤ length out = omega (arith, room-left outCurrent written room, same-long g) in
       let text = printed current (take t rest) in
-      let short : length text ≤ 1024 = rw (l .takes) (line-text current rest) in
+      let short : length text ≤ 1024 = l .short in
       let both : take (taken + t) input ≡ take taken input ++ take t rest = take-add taken t input in
       let state : after before (take (taken + t) input) ≡ later
       = rw (both, cut-state before (take taken input) (take t rest), ← g .reading) (sym (l .reading)) in
       let texts : printed before (take (taken + t) input) ≡ printed before (take taken input) ++ text
       = rw (both, cut-text before (take taken input) (take t rest), ← g .reading) in
       let room-later : length out - written - length text ≡ length out - j = omega (arith, l .text .end) in
-      let line = line-taken (length out - written) current rest (omega arith) in
+      let line = l .rest (length out - written) (omega arith) in
       record {
-        takes = let later-taken = rw (← l .takes, room-later, ← l .reading, drop-drop) at line in omega (arith, g .takes);
+        takes = let later-taken = rw (room-later, drop-drop) at line in omega (arith, g .takes);
         reading = sym state;
         text = rw texts (then (g .text) (l .text));
-        inside = more-taken input taken t h (made .takes) .1;
+        inside = more-taken input taken t h made .1;
         fits = omega (arith, l .text .end);
       }
 

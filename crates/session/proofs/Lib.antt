@@ -2,6 +2,7 @@ mod Lines
 mod Keeping
 mod Taking
 mod Turns
+mod Running
 mod Going
 mod Ending
 pub mod Streams

@@ -38,11 +38,11 @@ all-held line input later out held more e i s p q l k =
     }
 
 -- The newline: the line is read.
-after-newline : (x : Reading) (front : List ℕ) → after x (front ++ 10 ∷ []) ≡ afterByte (after x front) 10
+pub after-newline : (x : Reading) (front : List ℕ) → after x (front ++ 10 ∷ []) ≡ afterByte (after x front) 10
 unfolding after
 after-newline x front = cut-state x front (10 ∷ [])
 
-printed-newline : (x : Reading) (front : List ℕ) → printed x (front ++ 10 ∷ []) ≡ printed x front ++ byteText (after x front) 10
+pub printed-newline : (x : Reading) (front : List ℕ) → printed x (front ++ 10 ∷ []) ≡ printed x front ++ byteText (after x front) 10
 unfolding printed
 printed-newline x front = cut-text x front (10 ∷ []) ∙ rw append-nil
 

@@ -2,11 +2,12 @@
 use mathlib.Core.Path.{_≡_}
 use mathlib.Core.Bool.{cond}
 use mathlib.Core.List.{List, [], _∷_, _++_}
-use Prim.Native.Nat.{ℕ, zero, suc, _≤_}
+use Prim.Native.Nat.{ℕ, zero, suc, _+_, _-_, _≤_, _<_}
 use lib.Dec.{eqb, leb}
-use lib.ListN.{length, take}
+use lib.ListN.{length, take, drop}
 use lib.Seq.{sets}
-use Rattle.printing.specs.Writing.{Wrote}
+use Rattle.printing.specs.Writing.{textRoom, Wrote}
+use Rattle.progress.specs.Statement.{State}
 use Rattle.progress.specs.Progressing.{stateOf}
 use Rattle.session.specs.declared.Session.{Session}
 use Rattle.session.specs.Feeding.{keptBytes, Reading, begin, after, printed, ending, takenOf}
@@ -53,3 +54,18 @@ pub record TakesLine
   pub takes : taken ≡ lineBytes input
   pub reading : later ≡ after before (take taken input)
   pub text : Wrote out i (printed before (take taken input)) outLater j
+
+-- The bytes that are held, and the state.
+abbrev pub held : List ℕ → State → Reading
+held l s = record { line = l; state = s }
+
+-- Some bytes are taken, and the rest as if they came after them; a text is written from place i on.
+pub record Takes
+    (before : Reading) (input : List ℕ) (out : List ℕ) (i : ℕ) (taken : ℕ) (later : Reading) (j : ℕ) (outLater : List ℕ) : Type 0 where
+  pub some : 0 < length input → 0 < taken
+  pub inside : taken ≤ length input
+  pub reading : later ≡ after before (take taken input)
+  pub text : Wrote out i (printed before (take taken input)) outLater j
+  pub short : length (printed before (take taken input)) ≤ textRoom
+  pub rest : (room : ℕ) → textRoom ≤ room
+      → takenOf room before input ≡ taken + takenOf (room - length (printed before (take taken input))) later (drop taken input)

@@ -1,13 +1,14 @@
 // `statement` fed with bytes as they come.
 ghost use mathlib.Core.Path.{_≡_};
 ghost use mathlib.Core.Bool.{true};
+ghost use mathlib.Core.List.{[]};
 ghost use Prim.Native.Nat.{_≤_, min};
 ghost use lib.Dec.{ltb};
 ghost use lib.ListN.{length, take};
 ghost use Rattle.printing.specs.Writing.{hasRoom};
 ghost use Rattle.progress.specs.Statement.{runDue, lineRead};
 ghost use Rattle.progress.specs.Progressing.{stateOf, Reads};
-ghost use Rattle.session.specs.Sessions.{readingOf, Begins, Feeds, Finishes, Keeps, TakesLine};
+ghost use Rattle.session.specs.Sessions.{readingOf, Begins, Feeds, Finishes, Keeps, TakesLine, Takes, held};
 use progress::Ended;
 use progress::Progress;
 
@@ -109,6 +110,55 @@ fn take_line(
     }
 }
 
+// Takes the run lines at the front of the input; or one line, where there are none.
+fn take_runs(
+    progress: Progress,
+    line: &mut [u8; 51],
+    delivered: &mut [u32; 2976],
+    received: &mut [u32; 2976],
+    input: &[u8],
+    out: &mut [u8],
+    at: usize,
+) -> Fed
+    requires { ⌜ hasRoom (now out) at ≡ true ⌝ }
+    ensures { λ r. ⌜ Takes (held [] (stateOf progress (now (delivered .entry)) (now (received .entry)))) (now (input .entry)) (now (out .entry)) at (r .taken) (readingOf (r .session) (now (line .exit)) (now (delivered .exit)) (now (received .exit))) (r .written) (now (out .exit)) ⌝ }
+{
+    let ran = progress.read_runs(input, delivered, received);
+    let after = ran.progress;
+    let session = Session {
+        held: 0,
+        progress: after,
+    };
+    if ran.taken == 0 {
+        return take_line(session, line, delivered, received, input, out, at);
+    }
+    Fed {
+        session,
+        taken: ran.taken,
+        written: at,
+    }
+}
+
+// Takes run lines, or the rest of one line.
+fn take_lines(
+    session: Session,
+    line: &mut [u8; 51],
+    delivered: &mut [u32; 2976],
+    received: &mut [u32; 2976],
+    input: &[u8],
+    out: &mut [u8],
+    at: usize,
+) -> Fed
+    requires { ⌜ hasRoom (now out) at ≡ true ⌝ }
+    ensures { λ r. ⌜ Takes (readingOf session (now (line .entry)) (now (delivered .entry)) (now (received .entry))) (now (input .entry)) (now (out .entry)) at (r .taken) (readingOf (r .session) (now (line .exit)) (now (delivered .exit)) (now (received .exit))) (r .written) (now (out .exit)) ⌝ }
+{
+    if session.held == 0 {
+        let progress = session.progress;
+        return take_runs(progress, line, delivered, received, input, out, at);
+    }
+    take_line(session, line, delivered, received, input, out, at)
+}
+
 impl Session {
     // Nothing has been read.
     pub fn start() -> Session
@@ -148,7 +198,7 @@ impl Session {
                     written,
                 };
             }
-            let fed = take_line(
+            let fed = take_lines(
                 session,
                 line,
                 delivered,

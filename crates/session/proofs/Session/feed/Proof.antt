@@ -28,17 +28,17 @@ same-length c = same-long (c .before .before .before .before .loop .inv)
 returns : tie.Need-returns Inv-loop μ-loop
 returns c = going-none (c .before .before .before .before .loop .inv) (room-none _ _ _ (c .before .has-room .ensures) (c .if1 .taken))
 
-sub-take-line : tie.Need-sub-take-line Inv-loop μ-loop
-sub-take-line c = omega arith
+sub-take-lines : tie.Need-sub-take-lines Inv-loop μ-loop
+sub-take-lines c = omega arith
 
-part-take-line-start : tie.Need-part-take-line-start Inv-loop μ-loop
-part-take-line-start c = omega arith
+part-take-lines-start : tie.Need-part-take-lines-start Inv-loop μ-loop
+part-take-lines-start c = omega arith
 
-part-take-line-end : tie.Need-part-take-line-end Inv-loop μ-loop
-part-take-line-end c = omega arith
+part-take-lines-end : tie.Need-part-take-lines-end Inv-loop μ-loop
+part-take-lines-end c = omega arith
 
-take-line-requires : tie.Need-take-line-requires Inv-loop μ-loop
-take-line-requires c κs =
+take-lines-requires : tie.Need-take-lines-requires Inv-loop μ-loop
+take-lines-requires c κs =
     let else = c .before .before .before .before .before in
     room-yes _ _ _ (else .before .has-room .ensures) (else .if1 .left)
 
@@ -47,20 +47,28 @@ add-taken c =
     let made = c .before .before .before .before in
     let inside = made .before .before .before .before .before .before .before .before .before in
     let start = inside .before .before .before .before in
-    omega (arith, start .good .1 .1 .1 .1 .0 .0, more-taken (start .args .input .now) (inside .before .loop .taken) (made .take-line .result .taken) (inside .loop-test .taken) (made .take-line .ensures .takes))
+    let lines = made .take-lines in
+    let input = start .args .input .now in
+    let more = more-taken input (inside .before .loop .taken) (lines .result .taken) (inside .loop-test .taken) (lines .ensures) in
+    omega (arith, start .good .1 .1 .1 .1 .0 .0, more)
 
 loop-less : tie.Need-loop-less Inv-loop μ-loop
 loop-less c =
     let made = c .before .before .before .before in
     let inside = made .before .before .before .before .before .before .before .before .before in
     let input = inside .before .before .before .before .args .input .now in
-    omega (arith, more-taken input (inside .before .loop .taken) (made .take-line .result .taken) (inside .loop-test .taken) (made .take-line .ensures .takes))
+    let lines = made .take-lines in
+    omega (arith, more-taken input (inside .before .loop .taken) (lines .result .taken) (inside .loop-test .taken) (lines .ensures))
 
 loop-again : tie.Need-loop-again Inv-loop μ-loop
 loop-again c =
-    let else = c .before .before .before .before .before .before .before .before .before .before in
-    let lp = else .before .before .before .before in
-    going-more (lp .loop .inv) (omega arith) (room-yes _ _ _ (else .before .has-room .ensures) (else .if1 .left)) (c .before .before .before .before .take-line .ensures)
+    let made = c .before .before .before .before in
+    let else = made .before .before .before .before .before .before in
+    let inside = else .before .before .before in
+    let lines = made .take-lines in
+    going-more {later = readingOf (lines .result .session) (lines .last .1 .0) (lines .last .1 .1 .0) (lines .last .1 .1 .1 .0)}
+    (inside .before .loop .inv) (inside .loop-test .taken)
+    (room-yes _ _ _ (else .before .has-room .ensures) (else .if1 .left)) (lines .ensures)
 
 same-length-2 : tie.Need-same-length-2 Inv-loop μ-loop
 same-length-2 c = same-long (c .before .loop .inv)
@@ -78,10 +86,10 @@ feed-spec =
     has-room-requires
     same-length
     returns
-    sub-take-line
-    part-take-line-start
-    part-take-line-end
-    take-line-requires
+    sub-take-lines
+    part-take-lines-start
+    part-take-lines-end
+    take-lines-requires
     add-taken
     loop-less
     loop-again

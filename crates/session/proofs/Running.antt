@@ -1,0 +1,131 @@
+-- Run lines at the front of an input, byte by byte: they print nothing, and are taken as any other line is.
+use mathlib.Core.Path.{_≡_, refl, sym, _∙_, ap}
+use mathlib.Core.Bool.{Bool, true, false}
+use mathlib.Core.List.{List, [], _∷_, _++_}
+use Prim.Native.Nat.{ℕ, zero, suc, _+_, _-_, _≤_, _<_}
+use native.Mathlib.Nat.{sub-zero}
+use native.Mathlib.Omega.{arith}
+use lib.ListN.{length, take, drop, length-drop}
+use lib.Seq.{take-add, drop-drop}
+use Rattle.text.specs.Text.{placeOf}
+use Rattle.printing.specs.Writing.{Wrote}
+use Rattle.progress.specs.Statement.{State, lineRead}
+use Rattle.progress.specs.Progressing.{lineAt, isRunDue, runsBytes, runsState, RunsRead}
+use Rattle.progress.proofs.RunLines.{due-newline, run-quiet, bytes-none, state-none, bytes-more, state-more}
+use Rattle.session.specs.Feeding.{Reading, after, printed, takenOf}
+use Rattle.session.specs.Sessions.{lineBytes, TakesLine, Takes, held}
+use Rattle.session.proofs.Streams.{cut-text, cut-state, newline-state, newline-text}
+use Rattle.session.proofs.Lines.{line-cut}
+use Rattle.session.proofs.Taking.{bytes-some, bytes-within, bytes-place, newline-last}
+use Rattle.session.proofs.Taking.{front-text, front-state, line-taken, line-text}
+use Rattle.session.proofs.Turns.{after-newline, printed-newline}
+
+-- One line is some bytes.
+pub takes-line : {before later : Reading} {input out outLater : List ℕ} {i taken j : ℕ}
+    → TakesLine before input out i taken later j outLater → Takes before input out i taken later j outLater
+takes-line {before} {later} {input} w =
+    record {
+      some = λ h. rw (w .takes) (bytes-some input h);
+      inside = rw (w .takes) (bytes-within input);
+      reading = w .reading;
+      text = w .text;
+      short = rw (w .takes) (line-text before input);
+      rest = λ room h. rw (w .reading, w .takes) (line-taken room before input h);
+    }
+
+-- One run line.
+module _ (l : List ℕ) (s : State) (h : isRunDue l s ≡ true) where
+  whole : take (placeOf 10 l + 1) l ≡ lineAt l ++ 10 ∷ []
+  whole = newline-last l (due-newline l s h)
+
+  front : after (held [] s) (lineAt l) ≡ held (take 51 (lineAt l)) s
+  front = front-state (held [] s) l (omega arith)
+
+  one-state : after (held [] s) (take (placeOf 10 l + 1) l) ≡ held [] (lineRead (lineAt l) s .state)
+  one-state =
+      rw (whole, after-newline (held [] s) (lineAt l), front)
+      (newline-state (held (take 51 (lineAt l)) s) 10 refl ∙ rw (line-cut (lineAt l) s))
+
+  one-text : printed (held [] s) (take (placeOf 10 l + 1) l) ≡ []
+  one-text =
+      rw (whole, printed-newline (held [] s) (lineAt l), front-text (held [] s) l, front)
+      (newline-text (held (take 51 (lineAt l)) s) 10 refl ∙ rw (line-cut (lineAt l) s) (run-quiet l s h))
+
+  one-taken : (room : ℕ) → 1024 ≤ room
+      → takenOf room (held [] s) l ≡ placeOf 10 l + 1 + takenOf room (held [] (lineRead (lineAt l) s .state)) (drop (placeOf 10 l + 1) l)
+  one-taken room k =
+      let line = line-taken room (held [] s) l k in
+      rw (bytes-place l (due-newline l s h), one-text, one-state, sub-zero room) at line
+
+-- All of them.
+record Quiet (l : List ℕ) (s : State) (t : ℕ) (later : State) : Type 0 where
+  inside : t ≤ length l
+  state : after (held [] s) (take t l) ≡ held [] later
+  text : printed (held [] s) (take t l) ≡ []
+  rest : (room : ℕ) → 1024 ≤ room → takenOf room (held [] s) l ≡ t + takenOf room (held [] later) (drop t l)
+
+quiet-none : (l : List ℕ) (s : State) → Quiet l s 0 s
+unfolding after printed
+quiet-none l s = record { inside = omega arith; state = refl; text = refl; rest = λ room h. omega arith }
+
+quiet-more : (l : List ℕ) (s : State) (t : ℕ) (later : State) → isRunDue l s ≡ true
+    → Quiet (drop (placeOf 10 l + 1) l) (lineRead (lineAt l) s .state) t later → Quiet l s (placeOf 10 l + 1 + t) later
+quiet-more l s t later h w =
+    let k = placeOf 10 l + 1 in
+    let u = lineRead (lineAt l) s .state in
+    let both : take (placeOf 10 l + 1 + t) l ≡ take (placeOf 10 l + 1) l ++ take t (drop (placeOf 10 l + 1) l)
+    = take-add (placeOf 10 l + 1) t l in
+    record {
+      inside = omega (arith, w .inside, length-drop (placeOf 10 l + 1) l, due-newline l s h);
+      state = rw (both, cut-state (held [] s) (take k l) (take t (drop k l)), one-state l s h) (w .state);
+      text = rw (both, cut-text (held [] s) (take k l) (take t (drop k l)), one-text l s h, one-state l s h) (w .text);
+      rest = λ room r. let more = rw drop-drop at (w .rest room r) in omega (arith, one-taken l s h room r, more);
+    }
+
+quiet : (n : ℕ) (l : List ℕ) (s : State) → Quiet l s (runsBytes n l s) (runsState n l s)
+unfolding runsBytes runsState
+quiet zero l s = quiet-none l s
+quiet (suc n) l s = by (isRunDue l s) refl (quiet n (drop (placeOf 10 l + 1) l) (lineRead (lineAt l) s .state))
+  where
+    by : (b : Bool) → isRunDue l s ≡ b
+        → Quiet (drop (placeOf 10 l + 1) l) (lineRead (lineAt l) s .state)
+        (runsBytes n (drop (placeOf 10 l + 1) l) (lineRead (lineAt l) s .state))
+        (runsState n (drop (placeOf 10 l + 1) l) (lineRead (lineAt l) s .state))
+        → Quiet l s (runsBytes (suc n) l s) (runsState (suc n) l s)
+    by true e w = rw (bytes-more n l s e, state-more n l s e) (quiet-more l s _ _ e w)
+    by false e w = rw (bytes-none (suc n) l s e, state-none (suc n) l s e) (quiet-none l s)
+
+module _ (before later : State) (input out : List ℕ) (i taken : ℕ) (w : RunsRead before input taken later) where
+  as-quiet : Quiet input before taken later
+  as-quiet = rw (w .takes, w .state) (quiet (length input) input before)
+
+  -- Some were taken.
+  pub takes-runs : (taken ≡ 0 → ⊥) → Takes (held [] before) input out i taken (held [] later) i out
+  takes-runs h =
+      let q = as-quiet in
+      let text = q .text in
+      record {
+        some = λ k. omega (arith, h);
+        inside = q .inside;
+        reading = sym (q .state);
+        text = rw text (record { bytes = refl; end = omega arith });
+        short = rw text (omega arith);
+        rest = λ room r. rw (text, sub-zero room) (q .rest room r);
+      }
+
+  -- None were, so that the state is the same, and a line was taken.
+  same-state : taken ≡ 0 → later ≡ before
+  unfolding after
+  same-state h =
+      let q = as-quiet in
+      let e : after (held [] before) (take 0 input) ≡ held [] later = rw h at (q .state) in
+      sym (ap (λ (x : Reading). x .state) e)
+
+  pub takes-none : {next : Reading} {outLater : List ℕ} {t j : ℕ} → taken ≡ 0 → TakesLine (held [] later) input out i t next j outLater
+      → Takes (held [] before) input out i t next j outLater
+  takes-none h line = takes-line (rw (same-state h) at line)
+
+-- No byte is held.
+pub none-held : {s : State} {later : Reading} {input out outLater : List ℕ} {i t j : ℕ} (line : List ℕ) (n : ℕ) → n ≡ 0
+    → Takes (held [] s) input out i t later j outLater → Takes (held (take n line) s) input out i t later j outLater
+none-held line n e w = rw e w
