@@ -20,8 +20,8 @@ use Rattle.grammar.specs.Grammar.{openingLine, billLine, criticalLine, runLine}
 use Rattle.numerals.specs.Reading.{numbersAs}
 use Rattle.printing.specs.Printing.{billText, openText, lineText}
 use Rattle.printing.specs.Writing.{hasRoom, Wrote, Put}
-use Rattle.progress.specs.Statement.{State, state, Step, printing, nextNumber, stop, opened, openingRead, begun, billRead, withCritical, criticalRead}
-use Rattle.progress.specs.Statement.{placeOfLine, withRun, runRead, monthReply, monthEnd, laterRead, counted, dueRead, lineRead, atEnd}
+use Rattle.progress.specs.Statement.{State, state, Outcome, outcome, nextNumber, fault, opened, openingRead, begun, billRead, withCritical, criticalRead}
+use Rattle.progress.specs.Statement.{placeOfLine, withRun, runRead, monthReply, monthEnd, runOrBillRead, counted, expectedRead, lineRead, atEnd}
 use Rattle.progress.specs.Progressing.{Ends, Reads, valuesWith}
 use Rattle.grammar.proofs.Laws.{opening-count, prices-count}
 
@@ -45,13 +45,13 @@ least-taken l n r e = taken-by l n r e (leb n (length l)) refl
 pub puts : (o : List ℕ) (i : ℕ) (t p : List ℕ) (j : ℕ) → hasRoom o i ≡ true → Put o i t p j → Wrote o i t p j
 puts o i t p j h w = record { bytes = w .bytes ∙ rw h; end = w .end ∙ rw h }
 
-pub quiet : (o : List ℕ) (i : ℕ) (step : Step) (t : State) → step ≡ printing [] t → Ends o i step t o i
+pub quiet : (o : List ℕ) (i : ℕ) (step : Outcome) (t : State) → step ≡ outcome [] t → Ends o i step t o i
 quiet o i step t e =
-    subst (λ (x : Step). Ends o i x t o i) (sym e) (record { state = refl; text = record { bytes = refl; end = omega arith } })
+    subst (λ (x : Outcome). Ends o i x t o i) (sym e) (record { state = refl; text = record { bytes = refl; end = omega arith } })
 
-pub ends-by : (o : List ℕ) (i : ℕ) (step other : Step) (t : State) (p : List ℕ) (j : ℕ) → step ≡ other → Ends o i other t p j
+pub ends-by : (o : List ℕ) (i : ℕ) (step other : Outcome) (t : State) (p : List ℕ) (j : ℕ) → step ≡ other → Ends o i other t p j
     → Ends o i step t p j
-ends-by o i step other t p j e w = subst (λ (x : Step). Ends o i x t p j) (sym e) w
+ends-by o i step other t p j e w = subst (λ (x : Outcome). Ends o i x t p j) (sym e) w
 
 cond-same : (b : Bool) (A : Type 0) (a : A) → cond b a a ≡ a
 cond-same true A a = refl
@@ -77,114 +77,114 @@ some-read : (v : List ℕ) (x : Numbers) → x ≡ numbersAs v → (x .count ≡
 some-read v x e h = ne-eqb (length v) 0 (λ q. h (ap (λ (y : Numbers). y .count) e ∙ q))
 
 module _ (v : List ℕ) (x : Numbers) (e : x ≡ numbersAs v) (s : State) where
-  pub bill-no : x .count ≡ 0 → billRead v s ≡ stop s
+  pub bill-no : x .count ≡ 0 → billRead v s ≡ fault s
   unfolding billRead
   bill-no h = rw (none-read v x e h)
 
-  pub bill-yes : (x .count ≡ 0 → ⊥) → billRead v s ≡ printing [] (begun (x .first) s)
+  pub bill-yes : (x .count ≡ 0 → ⊥) → billRead v s ≡ outcome [] (begun (x .first) s)
   unfolding billRead
-  bill-yes h = rw (some-read v x e h) (ap (λ (y : Numbers). printing [] (begun (y .first) s)) (sym e))
+  bill-yes h = rw (some-read v x e h) (ap (λ (y : Numbers). outcome [] (begun (y .first) s)) (sym e))
 
-  pub critical-no : x .count ≡ 0 → criticalRead v s ≡ stop s
+  pub critical-no : x .count ≡ 0 → criticalRead v s ≡ fault s
   unfolding criticalRead
   critical-no h = rw (none-read v x e h)
 
-  pub critical-yes : (x .count ≡ 0 → ⊥) → criticalRead v s ≡ printing [] (withCritical (x .first) s)
+  pub critical-yes : (x .count ≡ 0 → ⊥) → criticalRead v s ≡ outcome [] (withCritical (x .first) s)
   unfolding criticalRead
-  critical-yes h = rw (some-read v x e h) (ap (λ (y : Numbers). printing [] (withCritical (y .first) s)) (sym e))
+  critical-yes h = rw (some-read v x e h) (ap (λ (y : Numbers). outcome [] (withCritical (y .first) s)) (sym e))
 
-  pub opening-no : x .count ≡ 0 → openingRead v s ≡ stop s
+  pub opening-no : x .count ≡ 0 → openingRead v s ≡ fault s
   unfolding openingRead
   opening-no h = rw (none-read v x e h)
 
-  pub opening-more : (x .count ≡ 0 → ⊥) → s .due < 13
-      → openingRead v s ≡ printing [] (state (s .number) (s .due + 1) (sets (s .values) (placeOfLine (s .due)) v) (s .account) (s .entered))
+  pub opening-more : (x .count ≡ 0 → ⊥) → s .expected < 13
+      → openingRead v s ≡ outcome [] (state (s .lines) (s .expected + 1) (sets (s .values) (placeOfLine (s .expected)) v) (s .account) (s .entered))
   unfolding openingRead
-  opening-more h k = rw (some-read v x e h, lt-ltb (s .due) 13 k)
+  opening-more h k = rw (some-read v x e h, lt-ltb (s .expected) 13 k)
 
-  pub opening-last : (x .count ≡ 0 → ⊥) → 13 ≤ s .due → openingRead v s ≡ opened (sets (s .values) (placeOfLine (s .due)) v) s
+  pub opening-last : (x .count ≡ 0 → ⊥) → 13 ≤ s .expected → openingRead v s ≡ opened (sets (s .values) (placeOfLine (s .expected)) v) s
   unfolding openingRead
-  opening-last h k = rw (some-read v x e h, le-ltb (s .due) 13 k)
+  opening-last h k = rw (some-read v x e h, le-ltb (s .expected) 13 k)
 
 -- A line after the critical line.
 module _ (l : List ℕ) (s : State) (x : Numbers) (e : x ≡ numbersAs (runLine l)) where
-  pub later-run : (x .count ≡ 0 → ⊥) → laterRead l s ≡ runRead (x .first) (x .second) (x .third) s
-  unfolding laterRead
+  pub later-run : (x .count ≡ 0 → ⊥) → runOrBillRead l s ≡ runRead (x .first) (x .second) (x .third) s
+  unfolding runOrBillRead
   later-run h =
       rw (some-read (runLine l) x e h) (ap (λ (y : Numbers). runRead (y .first) (y .second) (y .third) s) (sym e))
 
-  pub later-no : (y : Numbers) → y ≡ numbersAs (billLine l) → x .count ≡ 0 → y .count ≡ 0 → laterRead l s ≡ stop s
-  unfolding laterRead
+  pub later-no : (y : Numbers) → y ≡ numbersAs (billLine l) → x .count ≡ 0 → y .count ≡ 0 → runOrBillRead l s ≡ fault s
+  unfolding runOrBillRead
   later-no y f h k = rw (none-read (runLine l) x e h, none-read (billLine l) y f k)
 
   pub later-bill : (y : Numbers) → y ≡ numbersAs (billLine l) → x .count ≡ 0 → (y .count ≡ 0 → ⊥)
-      → laterRead l s ≡ printing (monthEnd s .text) (begun (y .first) (monthEnd s .state))
-  unfolding laterRead
+      → runOrBillRead l s ≡ outcome (monthEnd s .text) (begun (y .first) (monthEnd s .state))
+  unfolding runOrBillRead
   later-bill y f h k =
       rw (none-read (runLine l) x e h, some-read (billLine l) y f k)
-      (ap (λ (z : Numbers). printing (monthEnd s .text) (begun (z .first) (monthEnd s .state))) (sym f))
+      (ap (λ (z : Numbers). outcome (monthEnd s .text) (begun (z .first) (monthEnd s .state))) (sym f))
 
 -- A run past the most readings, and one that fits.
-pub run-no : (count d e : ℕ) (s : State) → 2976 < length (s .entered .delivered) + count → runRead count d e s ≡ stop s
+pub run-no : (count d e : ℕ) (s : State) → 2976 < length (s .entered .delivered) + count → runRead count d e s ≡ fault s
 unfolding runRead
 run-no count d e s h = rw (lt-ltb 2976 (length (s .entered .delivered) + count) h)
 
 pub run-yes : (count d e : ℕ) (s : State) → length (s .entered .delivered) + count ≤ 2976
-    → runRead count d e s ≡ printing [] (withRun count d e s)
+    → runRead count d e s ≡ outcome [] (withRun count d e s)
 unfolding runRead
 run-yes count d e s h = rw (le-ltb 2976 (length (s .entered .delivered) + count) h)
 
--- What is due decides.
+-- What is expected decides.
 module _ (l : List ℕ) (s : State) where
-  pub due-opening : s .due < 14 → dueRead l s ≡ openingRead (openingLine (s .due) l) s
-  unfolding dueRead
-  due-opening h = rw (lt-ltb (s .due) 14 h)
+  pub expected-opening : s .expected < 14 → expectedRead l s ≡ openingRead (openingLine (s .expected) l) s
+  unfolding expectedRead
+  expected-opening h = rw (lt-ltb (s .expected) 14 h)
 
-  pub due-bill : 14 ≤ s .due → s .due ≡ 14 → dueRead l s ≡ billRead (billLine l) s
-  unfolding dueRead
-  due-bill h e = rw (le-ltb (s .due) 14 h, eq-eqb (s .due) 14 e)
+  pub expected-bill : 14 ≤ s .expected → s .expected ≡ 14 → expectedRead l s ≡ billRead (billLine l) s
+  unfolding expectedRead
+  expected-bill h e = rw (le-ltb (s .expected) 14 h, eq-eqb (s .expected) 14 e)
 
-  pub due-critical : 14 ≤ s .due → (s .due ≡ 14 → ⊥) → s .due ≡ 15 → dueRead l s ≡ criticalRead (criticalLine l) s
-  unfolding dueRead
-  due-critical h n e = rw (le-ltb (s .due) 14 h, ne-eqb (s .due) 14 n, eq-eqb (s .due) 15 e)
+  pub expected-critical : 14 ≤ s .expected → (s .expected ≡ 14 → ⊥) → s .expected ≡ 15 → expectedRead l s ≡ criticalRead (criticalLine l) s
+  unfolding expectedRead
+  expected-critical h n e = rw (le-ltb (s .expected) 14 h, ne-eqb (s .expected) 14 n, eq-eqb (s .expected) 15 e)
 
-  pub due-later : 14 ≤ s .due → (s .due ≡ 14 → ⊥) → (s .due ≡ 15 → ⊥) → s .due ≡ 16 → dueRead l s ≡ laterRead l s
-  unfolding dueRead
-  due-later h n m e = rw (le-ltb (s .due) 14 h, ne-eqb (s .due) 14 n, ne-eqb (s .due) 15 m, eq-eqb (s .due) 16 e)
+  pub expected-later : 14 ≤ s .expected → (s .expected ≡ 14 → ⊥) → (s .expected ≡ 15 → ⊥) → s .expected ≡ 16 → expectedRead l s ≡ runOrBillRead l s
+  unfolding expectedRead
+  expected-later h n m e = rw (le-ltb (s .expected) 14 h, ne-eqb (s .expected) 14 n, ne-eqb (s .expected) 15 m, eq-eqb (s .expected) 16 e)
 
-  pub due-none : 14 ≤ s .due → (s .due ≡ 14 → ⊥) → (s .due ≡ 15 → ⊥) → (s .due ≡ 16 → ⊥) → dueRead l s ≡ printing [] s
-  unfolding dueRead
-  due-none h n m k = rw (le-ltb (s .due) 14 h, ne-eqb (s .due) 14 n, ne-eqb (s .due) 15 m, ne-eqb (s .due) 16 k)
+  pub expected-none : 14 ≤ s .expected → (s .expected ≡ 14 → ⊥) → (s .expected ≡ 15 → ⊥) → (s .expected ≡ 16 → ⊥) → expectedRead l s ≡ outcome [] s
+  unfolding expectedRead
+  expected-none h n m k = rw (le-ltb (s .expected) 14 h, ne-eqb (s .expected) 14 n, ne-eqb (s .expected) 15 m, ne-eqb (s .expected) 16 k)
 
 -- The end of the input.
 module _ (s : State) where
-  pub end-opened : s .due ≡ 14 → atEnd s ≡ []
+  pub end-opened : s .expected ≡ 14 → atEnd s ≡ []
   unfolding atEnd
-  end-opened e = rw (eq-eqb (s .due) 14 e)
+  end-opened e = rw (eq-eqb (s .expected) 14 e)
 
-  pub end-stopped : (s .due ≡ 14 → ⊥) → 16 < s .due → atEnd s ≡ []
+  pub end-stopped : (s .expected ≡ 14 → ⊥) → 16 < s .expected → atEnd s ≡ []
   unfolding atEnd
-  end-stopped n h = rw (ne-eqb (s .due) 14 n, lt-ltb 16 (s .due) h)
+  end-stopped n h = rw (ne-eqb (s .expected) 14 n, lt-ltb 16 (s .expected) h)
 
-  pub end-month : (r : BillingReply) → r ≡ monthReply s → (s .due ≡ 14 → ⊥) → s .due ≤ 16 → s .due ≡ 16
+  pub end-month : (r : BillingReply) → r ≡ monthReply s → (s .expected ≡ 14 → ⊥) → s .expected ≤ 16 → s .expected ≡ 16
       → atEnd s ≡ billText (s .entered .month) (r .number) (r .bill)
   unfolding atEnd monthEnd
   end-month r e n h k =
-      rw (ne-eqb (s .due) 14 n, le-ltb 16 (s .due) h, eq-eqb (s .due) 16 k)
+      rw (ne-eqb (s .expected) 14 n, le-ltb 16 (s .expected) h, eq-eqb (s .expected) 16 k)
       (ap (λ (q : BillingReply). billText (s .entered .month) (q .number) (q .bill)) (sym e))
 
-  pub end-absent : (s .due ≡ 14 → ⊥) → s .due ≤ 16 → (s .due ≡ 16 → ⊥) → atEnd s ≡ lineText (nextNumber (s .number))
+  pub end-absent : (s .expected ≡ 14 → ⊥) → s .expected ≤ 16 → (s .expected ≡ 16 → ⊥) → atEnd s ≡ lineText (nextNumber (s .lines))
   unfolding atEnd
-  end-absent n h k = rw (ne-eqb (s .due) 14 n, le-ltb 16 (s .due) h, ne-eqb (s .due) 16 k)
+  end-absent n h k = rw (ne-eqb (s .expected) 14 n, le-ltb 16 (s .expected) h, ne-eqb (s .expected) 16 k)
 
 -- A month that is complete.
 pub month-ends : (o : List ℕ) (i : ℕ) (p : List ℕ) (j : ℕ) (s : State) (r : BillingReply) → r ≡ monthReply s → hasRoom o i ≡ true
     → Put o i (billText (s .entered .month) (r .number) (r .bill)) p j
-    → Ends o i (monthEnd s) (state (s .number) (s .due) (s .values) (r .account) (s .entered)) p j
+    → Ends o i (monthEnd s) (state (s .lines) (s .expected) (s .values) (r .account) (s .entered)) p j
 unfolding monthEnd
 month-ends o i p j s r e h w =
     record {
-      state = ap (λ (q : BillingReply). state (s .number) (s .due) (s .values) (q .account) (s .entered)) e;
+      state = ap (λ (q : BillingReply). state (s .lines) (s .expected) (s .values) (q .account) (s .entered)) e;
       text =
           puts o i (billText (s .entered .month) (monthReply s .number) (monthReply s .bill)) p j h
           (subst (λ (q : BillingReply). Put o i (billText (s .entered .month) (q .number) (q .bill)) p j) e w);
@@ -193,12 +193,12 @@ month-ends o i p j s r e h w =
 -- The account is opened.
 pub account-opens : (o : List ℕ) (i : ℕ) (p : List ℕ) (j : ℕ) (s : State) (xs wide : List ℕ) (t : Terms) (l : PriceList) (r : Reply)
     → wide ≡ xs → t ≡ termsAt wide → l ≡ pricesAt wide → r ≡ openingReply (s .account) t l (getD xs 0 0) → hasRoom o i ≡ true
-    → Put o i (openText (r .number)) p j → Ends o i (opened xs s) (state (s .number) 14 xs (r .account) (s .entered)) p j
+    → Put o i (openText (r .number)) p j → Ends o i (opened xs s) (state (s .lines) 14 xs (r .account) (s .entered)) p j
 unfolding opened
 account-opens o i p j s xs wide t l r ew et el er h w =
     let q : r ≡ openingReply (s .account) (termsAt xs) (pricesAt xs) (getD xs 0 0) = er ∙ rw (et, el, ew) in
     record {
-      state = ap (λ (y : Reply). state (s .number) 14 xs (y .account) (s .entered)) q;
+      state = ap (λ (y : Reply). state (s .lines) 14 xs (y .account) (s .entered)) q;
       text = puts o i (openText (openingReply (s .account) (termsAt xs) (pricesAt xs) (getD xs 0 0) .number)) p j h (subst (λ (y : Reply). Put o i (openText (y .number)) p j) q w);
     }
 
@@ -248,23 +248,23 @@ pub values-are : (xs : List ℕ) (k : ℕ) (l : List ℕ) (x : Numbers) → x �
 values-are xs k l x e h = values-by xs k l x e h (eqb k 6) refl
 
 -- Where a text fits, a line is read.
-pub reads-some : (o : List ℕ) (i : ℕ) (s : State) (step : Step) (t : State) (p : List ℕ) (j : ℕ) → hasRoom o i ≡ true
+pub reads-some : (o : List ℕ) (i : ℕ) (s : State) (step : Outcome) (t : State) (p : List ℕ) (j : ℕ) → hasRoom o i ≡ true
     → Ends o i step t p j → Reads o i s step t p j
 reads-some o i s step t p j h w =
     record { state = w .state ∙ sym (rw h); bytes = w .text .bytes ∙ sym (rw h); end = w .text .end ∙ sym (rw h) }
 
-pub reads-none : (o : List ℕ) (i : ℕ) (s : State) (step : Step) → hasRoom o i ≡ false → Reads o i s step s o i
+pub reads-none : (o : List ℕ) (i : ℕ) (s : State) (step : Outcome) → hasRoom o i ≡ false → Reads o i s step s o i
 reads-none o i s step h = record { state = sym (rw h); bytes = sym (rw h); end = sym (rw h) }
 
 -- The next month begins after the one before is printed.
 pub month-begins : (o : List ℕ) (i : ℕ) (p : List ℕ) (j : ℕ) (l : List ℕ) (s t u : State) (m : ℕ)
-    → laterRead l s ≡ printing (monthEnd s .text) (begun m (monthEnd s .state)) → Ends o i (monthEnd s) t p j → u ≡ begun m t
-    → Ends o i (laterRead l s) u p j
+    → runOrBillRead l s ≡ outcome (monthEnd s .text) (begun m (monthEnd s .state)) → Ends o i (monthEnd s) t p j → u ≡ begun m t
+    → Ends o i (runOrBillRead l s) u p j
 month-begins o i p j l s t u m e w b =
-    subst (λ (x : Step). Ends o i x u p j) (sym e) (record { state = b ∙ ap (begun m) (w .state); text = w .text })
+    subst (λ (x : Outcome). Ends o i x u p j) (sym e) (record { state = b ∙ ap (begun m) (w .state); text = w .text })
 
 -- A line is counted before it is read.
-pub read-by : (o : List ℕ) (i : ℕ) (p : List ℕ) (j : ℕ) (l : List ℕ) (s t u : State) → u ≡ counted s → Ends o i (dueRead l u) t p j
+pub read-by : (o : List ℕ) (i : ℕ) (p : List ℕ) (j : ℕ) (l : List ℕ) (s t u : State) → u ≡ counted s → Ends o i (expectedRead l u) t p j
     → Ends o i (lineRead l s) t p j
 unfolding lineRead
-read-by o i p j l s t u e w = subst (λ (x : State). Ends o i (dueRead l x) t p j) e w
+read-by o i p j l s t u e w = subst (λ (x : State). Ends o i (expectedRead l x) t p j) e w

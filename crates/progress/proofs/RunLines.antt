@@ -14,9 +14,9 @@ use Rattle.grammar.specs.Grammar.{runLine}
 use Rattle.numerals.specs.Reading.{numbersAs}
 use Rattle.progress.specs.declared.Run.{Run}
 use Rattle.progress.specs.declared.Progress.{Progress}
-use Rattle.progress.specs.Statement.{State, state, Month, monthOf, Step, printing, nextNumber, counted, withRun, lineRead}
-use Rattle.progress.specs.Progressing.{stateOf, lineAt, isRun, isRunDue, runsBytes, runsState, RunsRead, runAt, ranTo}
-use Rattle.progress.proofs.Lines.{least-taken, later-run, run-yes, due-later}
+use Rattle.progress.specs.Statement.{State, state, Month, monthOf, Outcome, outcome, nextNumber, counted, withRun, lineRead}
+use Rattle.progress.specs.Progressing.{stateOf, lineAt, isRun, isRunExpected, runsBytes, runsState, RunsRead, runAt, ranTo}
+use Rattle.progress.proofs.Lines.{least-taken, later-run, run-yes, expected-later}
 
 -- The first newline stands inside, or there is none.
 pub place-within : (l : List ℕ) → placeOf 10 l ≤ length l
@@ -87,60 +87,60 @@ run-fits l n h = by (eqb (placeOf 10 l) (length l)) (eqb (length (runLine (lineA
           fits = leb-true (n + getD (runLine (lineAt l)) 0 0) 2976 e;
         }
 
--- The same where a run is due.
-due-run : (l : List ℕ) (s : State) → isRunDue l s ≡ true → (s .due ≡ 16) × Fits l (length (s .entered .delivered))
-unfolding isRunDue
-due-run l s h = by (eqb (s .due) 16) (isRun l (length (s .entered .delivered))) refl refl h
+-- The same where a run is expected.
+expected-run : (l : List ℕ) (s : State) → isRunExpected l s ≡ true → (s .expected ≡ 16) × Fits l (length (s .entered .delivered))
+unfolding isRunExpected
+expected-run l s h = by (eqb (s .expected) 16) (isRun l (length (s .entered .delivered))) refl refl h
   where
-    by : (a b : Bool) → eqb (s .due) 16 ≡ a → isRun l (length (s .entered .delivered)) ≡ b → (a && b) ≡ true
-        → (s .due ≡ 16) × Fits l (length (s .entered .delivered))
-    by true true p q e = (eqb-true (s .due) 16 p, run-fits l (length (s .entered .delivered)) q)
+    by : (a b : Bool) → eqb (s .expected) 16 ≡ a → isRun l (length (s .entered .delivered)) ≡ b → (a && b) ≡ true
+        → (s .expected ≡ 16) × Fits l (length (s .entered .delivered))
+    by true true p q e = (eqb-true (s .expected) 16 p, run-fits l (length (s .entered .delivered)) q)
     by true false p q e = let z : _≡_ {A = ℕ} 0 1 = cc in absurd (omega arith)
     by false b p q e = let z : _≡_ {A = ℕ} 0 1 = cc in absurd (omega arith)
 
-pub is-due : (l : List ℕ) (s : State) (b : Bool) → s .due ≡ 16 → isRun l (length (s .entered .delivered)) ≡ b → isRunDue l s ≡ b
-unfolding isRunDue
-is-due l s b h e = rw (eq-eqb (s .due) 16 h, e)
+pub is-expected : (l : List ℕ) (s : State) (b : Bool) → s .expected ≡ 16 → isRun l (length (s .entered .delivered)) ≡ b → isRunExpected l s ≡ b
+unfolding isRunExpected
+is-expected l s b h e = rw (eq-eqb (s .expected) 16 h, e)
 
-pub not-due : (l : List ℕ) (s : State) → (s .due ≡ 16 → ⊥) → isRunDue l s ≡ false
-unfolding isRunDue
-not-due l s h = rw (ne-eqb (s .due) 16 h)
+pub not-expected : (l : List ℕ) (s : State) → (s .expected ≡ 16 → ⊥) → isRunExpected l s ≡ false
+unfolding isRunExpected
+not-expected l s h = rw (ne-eqb (s .expected) 16 h)
 
-pub due-newline : (l : List ℕ) (s : State) → isRunDue l s ≡ true → placeOf 10 l < length l
-due-newline l s h = due-run l s h .1 .newline
+pub expected-newline : (l : List ℕ) (s : State) → isRunExpected l s ≡ true → placeOf 10 l < length l
+expected-newline l s h = expected-run l s h .1 .newline
 
 -- Such a line prints nothing.
-pub run-read : (l : List ℕ) (s : State) → isRunDue l s ≡ true
+pub run-read : (l : List ℕ) (s : State) → isRunExpected l s ≡ true
     → lineRead (lineAt l) s
-    ≡ printing [] (withRun (getD (runLine (lineAt l)) 0 0) (getD (runLine (lineAt l)) 1 0) (getD (runLine (lineAt l)) 2 0) (counted s))
+    ≡ outcome [] (withRun (getD (runLine (lineAt l)) 0 0) (getD (runLine (lineAt l)) 1 0) (getD (runLine (lineAt l)) 2 0) (counted s))
 unfolding lineRead counted
 run-read l s h =
-    let f = due-run l s h in
-    let due : s .due ≡ 16 = f .0 in
-    due-later (lineAt l) (counted s) (omega arith) (λ e. omega arith) (λ e. omega arith) due
+    let f = expected-run l s h in
+    let expected : s .expected ≡ 16 = f .0 in
+    expected-later (lineAt l) (counted s) (omega arith) (λ e. omega arith) (λ e. omega arith) expected
     ∙ later-run (lineAt l) (counted s) (numbersAs (runLine (lineAt l))) refl (f .1 .read)
     ∙ run-yes (getD (runLine (lineAt l)) 0 0) (getD (runLine (lineAt l)) 1 0) (getD (runLine (lineAt l)) 2 0) (counted s) (f .1 .fits)
 
-pub run-quiet : (l : List ℕ) (s : State) → isRunDue l s ≡ true → lineRead (lineAt l) s .text ≡ []
-run-quiet l s h = ap (λ (x : Step). x .text) (run-read l s h)
+pub run-quiet : (l : List ℕ) (s : State) → isRunExpected l s ≡ true → lineRead (lineAt l) s .text ≡ []
+run-quiet l s h = ap (λ (x : Outcome). x .text) (run-read l s h)
 
 -- One line more, or none.
 module _ (n : ℕ) (l : List ℕ) (s : State) where
-  pub bytes-more : isRunDue l s ≡ true
+  pub bytes-more : isRunExpected l s ≡ true
       → runsBytes (suc n) l s ≡ placeOf 10 l + 1 + runsBytes n (drop (placeOf 10 l + 1) l) (lineRead (lineAt l) s .state)
   unfolding runsBytes
   bytes-more h = rw h
 
-  pub state-more : isRunDue l s ≡ true → runsState (suc n) l s ≡ runsState n (drop (placeOf 10 l + 1) l) (lineRead (lineAt l) s .state)
+  pub state-more : isRunExpected l s ≡ true → runsState (suc n) l s ≡ runsState n (drop (placeOf 10 l + 1) l) (lineRead (lineAt l) s .state)
   unfolding runsState
   state-more h = rw h
 
-pub bytes-none : (n : ℕ) (l : List ℕ) (s : State) → isRunDue l s ≡ false → runsBytes n l s ≡ 0
+pub bytes-none : (n : ℕ) (l : List ℕ) (s : State) → isRunExpected l s ≡ false → runsBytes n l s ≡ 0
 unfolding runsBytes
 bytes-none zero l s h = refl
 bytes-none (suc n) l s h = rw h
 
-pub state-none : (n : ℕ) (l : List ℕ) (s : State) → isRunDue l s ≡ false → runsState n l s ≡ s
+pub state-none : (n : ℕ) (l : List ℕ) (s : State) → isRunExpected l s ≡ false → runsState n l s ≡ s
 unfolding runsState
 state-none zero l s h = refl
 state-none (suc n) l s h = rw h
@@ -150,34 +150,34 @@ record Same (n m : ℕ) (l : List ℕ) (s : State) : Type 0 where
   bytes : runsBytes n l s ≡ runsBytes m l s
   state : runsState n l s ≡ runsState m l s
 
-same-none : (n m : ℕ) (l : List ℕ) (s : State) → isRunDue l s ≡ false → Same n m l s
+same-none : (n m : ℕ) (l : List ℕ) (s : State) → isRunExpected l s ≡ false → Same n m l s
 same-none n m l s h =
     record {
       bytes = bytes-none n l s h ∙ sym (bytes-none m l s h);
       state = state-none n l s h ∙ sym (state-none m l s h);
     }
 
-none-left : (l : List ℕ) (s : State) → length l ≤ 0 → isRunDue l s ≡ false
-none-left l s h = by (isRunDue l s) refl
+none-left : (l : List ℕ) (s : State) → length l ≤ 0 → isRunExpected l s ≡ false
+none-left l s h = by (isRunExpected l s) refl
   where
-    by : (b : Bool) → isRunDue l s ≡ b → b ≡ false
-    by true e = absurd (omega (arith, due-newline l s e))
+    by : (b : Bool) → isRunExpected l s ≡ b → b ≡ false
+    by true e = absurd (omega (arith, expected-newline l s e))
     by false e = refl
 
 same-runs : (n m : ℕ) (l : List ℕ) (s : State) → length l ≤ n → length l ≤ m → Same n m l s
 same-runs zero m l s h k = same-none zero m l s (none-left l s h)
 same-runs (suc n) zero l s h k = same-none (suc n) zero l s (none-left l s k)
 same-runs (suc n) (suc m) l s h k =
-    by (isRunDue l s) refl (λ p q. same-runs n m (drop (placeOf 10 l + 1) l) (lineRead (lineAt l) s .state) p q)
+    by (isRunExpected l s) refl (λ p q. same-runs n m (drop (placeOf 10 l + 1) l) (lineRead (lineAt l) s .state) p q)
   where
-    by : (b : Bool) → isRunDue l s ≡ b
+    by : (b : Bool) → isRunExpected l s ≡ b
         → (length (drop (placeOf 10 l + 1) l) ≤ n → length (drop (placeOf 10 l + 1) l) ≤ m
         → Same n m (drop (placeOf 10 l + 1) l) (lineRead (lineAt l) s .state))
         → Same (suc n) (suc m) l s
     by false e more = same-none (suc n) (suc m) l s e
     by true e more =
         let less = length-drop (placeOf 10 l + 1) l in
-        let w = more (omega (arith, less, due-newline l s e)) (omega (arith, less, due-newline l s e)) in
+        let w = more (omega (arith, less, expected-newline l s e)) (omega (arith, less, expected-newline l s e)) in
         record {
           bytes = bytes-more n l s e ∙ ap (λ (b : ℕ). placeOf 10 l + 1 + b) (w .bytes) ∙ sym (bytes-more m l s e);
           state = state-more n l s e ∙ w .state ∙ sym (state-more m l s e);
@@ -203,9 +203,9 @@ module _ (before s : State) (input : List ℕ) (taken : ℕ) (w : Running before
   rest-is : take (length input - taken) (drop taken input) ≡ drop taken input
   rest-is = take-all (length input - taken) (drop taken input) (omega (arith, length-drop taken input))
 
-  pub running-none : isRunDue (take (length input - taken) (drop taken input)) s ≡ false → RunsRead before input taken s
+  pub running-none : isRunExpected (take (length input - taken) (drop taken input)) s ≡ false → RunsRead before input taken s
   running-none h =
-      let e : isRunDue (drop taken input) s ≡ false = rw rest-is at h in
+      let e : isRunExpected (drop taken input) s ≡ false = rw rest-is at h in
       record {
         takes = sym (w .bytes ∙ rw (bytes-none (length input - taken) (drop taken input) s e) (omega arith));
         state = sym (w .state ∙ state-none (length input - taken) (drop taken input) s e);
@@ -216,15 +216,15 @@ module _ (before s : State) (input : List ℕ) (taken : ℕ) (w : Running before
       running-none (none-left (take (length input - taken) (drop taken input)) s
       (omega (arith, length-take (length input - taken) (drop taken input), length-drop taken input)))
 
-  pub running-more : (t : State) (more : ℕ) → isRunDue (take (length input - taken) (drop taken input)) s ≡ true
+  pub running-more : (t : State) (more : ℕ) → isRunExpected (take (length input - taken) (drop taken input)) s ≡ true
       → more ≡ placeOf 10 (take (length input - taken) (drop taken input)) + 1
       → t ≡ lineRead (lineAt (take (length input - taken) (drop taken input))) s .state → Running before input (taken + more) t
   running-more t more h p q =
       let rest = drop taken input in
-      let due : isRunDue rest s ≡ true = rw rest-is at h in
+      let expected : isRunExpected rest s ≡ true = rw rest-is at h in
       let bytes : more ≡ placeOf 10 rest + 1 = rw rest-is at p in
       let then : t ≡ lineRead (lineAt rest) s .state = rw rest-is at q in
-      let newline = due-newline rest s due in
+      let newline = expected-newline rest s expected in
       let long = length-drop taken input in
       let less : length input - taken ≡ suc (length input - taken - 1) = omega (arith, newline, long) in
       let later : drop (placeOf 10 rest + 1) rest ≡ drop (taken + more) input
@@ -233,11 +233,11 @@ module _ (before s : State) (input : List ℕ) (taken : ℕ) (w : Running before
       (omega (arith, length-drop (taken + more) input, bytes, newline, long))
       (omega (arith, length-drop (taken + more) input)) in
       let some : runsBytes (length input - taken) rest s ≡ more + runsBytes (length input - (taken + more)) (drop (taken + more) input) t
-      = rw (less, bytes-more (length input - taken - 1) rest s due, later, ← then, ← bytes) (ap (λ (b : ℕ). more + b) (same .bytes)) in
+      = rw (less, bytes-more (length input - taken - 1) rest s expected, later, ← then, ← bytes) (ap (λ (b : ℕ). more + b) (same .bytes)) in
       record {
         within = omega (arith, newline, long, bytes);
         bytes = omega (arith, w .bytes, some);
-        state = w .state ∙ rw (less, state-more (length input - taken - 1) rest s due, later, ← then) (same .state);
+        state = w .state ∙ rw (less, state-more (length input - taken - 1) rest s expected, later, ← then) (same .state);
       }
 
 -- What a turn of the loop changes, where a run line stands there.
@@ -270,22 +270,22 @@ module _ (n : ℕ) (l : List ℕ) (run : Run) (q : run ≡ runAt l n) (some : ru
   turn-fits = omega (arith, ap (λ (y : Run). y .count) run-is, run-fits l n there .fits)
 
 -- x is the progress before the loop; n readings stand at the front of both registers.
-module _ (x : Progress) (number n : ℕ) (d e l : List ℕ) (due : x .due ≡ 16) (long : length d ≡ 2976) (within : n ≤ 2976) where
+module _ (x : Progress) (number n : ℕ) (d e l : List ℕ) (expected : x .expected ≡ 16) (long : length d ≡ 2976) (within : n ≤ 2976) where
   filled : length (take n d) ≡ n
   filled = omega (arith, length-take n d)
 
   module _ (run : Run) (q : run ≡ runAt l n) where
-    pub turn-none : run .bytes ≡ 0 → isRunDue l (ranTo x number (take n d) (take n e)) ≡ false
+    pub turn-none : run .bytes ≡ 0 → isRunExpected l (ranTo x number (take n d) (take n e)) ≡ false
     unfolding runAt
-    turn-none h = is-due l (ranTo x number (take n d) (take n e)) false due (rw filled (by (isRun l n) refl))
+    turn-none h = is-expected l (ranTo x number (take n d) (take n e)) false expected (rw filled (by (isRun l n) refl))
       where
         by : (b : Bool) → isRun l n ≡ b → b ≡ false
         by false p = refl
         by true p = let z : run .bytes ≡ placeOf 10 l + 1 = ap (λ (y : Run). y .bytes) q ∙ rw p in absurd (omega (arith, z, h))
 
     module _ (some : run .bytes ≡ 0 → ⊥) where
-      pub turn-due : isRunDue l (ranTo x number (take n d) (take n e)) ≡ true
-      turn-due = is-due l (ranTo x number (take n d) (take n e)) true due (rw filled (there n l run q some))
+      pub turn-expected : isRunExpected l (ranTo x number (take n d) (take n e)) ≡ true
+      turn-expected = is-expected l (ranTo x number (take n d) (take n e)) true expected (rw filled (there n l run q some))
 
       pub turn-state : (f g : List ℕ) (next : ℕ) → next ≡ nextNumber number
           → take (n + run .count) f ≡ take n d ++ replicate (n + run .count - n) (run .delivered)
@@ -295,20 +295,20 @@ module _ (x : Progress) (number n : ℕ) (d e l : List ℕ) (due : x .due ≡ 16
       unfolding counted
       turn-state f g next k wf wg =
           let more : n + run .count - n ≡ run .count = omega arith in
-          let read = ap (λ (y : Step). y .state) (run-read l (ranTo x number (take n d) (take n e)) turn-due) in
+          let read = ap (λ (y : Outcome). y .state) (run-read l (ranTo x number (take n d) (take n e)) turn-expected) in
           rw (wf, wg, more, k, run-is n l run q some) (sym read)
 
 -- Before the first turn: r readings stand in both registers.
 pub loop-start : (x : Progress) (d e : List ℕ) (r n : ℕ) → length d ≡ 2976 → length e ≡ 2976 → r ≡ min (x .filled) (length d)
-    → n ≡ min r (length e) → ranTo x (x .number) (take n d) (take n e) ≡ stateOf x d e
+    → n ≡ min r (length e) → ranTo x (x .lines) (take n d) (take n e) ≡ stateOf x d e
 loop-start x d e r n p q h k =
     let first : n ≡ min (x .filled) (length d) = omega arith in
     let second : n ≡ min (x .filled) (length e) = omega arith in
     rw (least-taken d (x .filled) n first, least-taken e (x .filled) n second)
 
--- No run is due.
-pub none-due : (s : State) (input : List ℕ) → (s .due ≡ 16 → ⊥) → RunsRead s input 0 s
-none-due s input h = running-none s s input 0 (running-start s s input refl) (not-due (take (length input - 0) (drop 0 input)) s h)
+-- No run is expected.
+pub none-expected : (s : State) (input : List ℕ) → (s .expected ≡ 16 → ⊥) → RunsRead s input 0 s
+none-expected s input h = running-none s s input 0 (running-start s s input refl) (not-expected (take (length input - 0) (drop 0 input)) s h)
 
 -- The later progress stands for the state.
 pub ran-to : (before s t : State) (input : List ℕ) (taken : ℕ) → t ≡ s → RunsRead before input taken s → RunsRead before input taken t

@@ -12,12 +12,12 @@ use Rattle.grammar.specs.Grammar.{runLine}
 use Rattle.printing.specs.Writing.{hasRoom, Wrote}
 use Rattle.progress.specs.declared.Progress.{Progress}
 use Rattle.progress.specs.declared.Run.{Run}
-use Rattle.progress.specs.Statement.{State, state, monthOf, Step, placeOfLine, isUnreadable, mostReadings, runDue, lineRead}
+use Rattle.progress.specs.Statement.{State, state, monthOf, Outcome, placeOfLine, isUnreadable, mostReadings, runExpected, lineRead}
 
 -- The readings of the month stand at the front of the two registers.
 abbrev pub stateOf : Progress → List ℕ → List ℕ → State
 stateOf x delivered received =
-    state (x .number) (x .due) (x .values) (x .account)
+    state (x .lines) (x .expected) (x .values) (x .account)
     (monthOf (x .month) (x .critical) (take (x .filled) delivered) (take (x .filled) received))
 
 -- Whatever the registers hold, the progress stands for a state.
@@ -26,7 +26,7 @@ StandsFor s x = (d e : List ℕ) → stateOf x d e ≡ s
 
 -- A line was read, where a text fits into the buffer from place i on: what the progress stands for then, and its text. Elsewhere both
 -- stay as they were.
-pub record Reads (out : List ℕ) (i : ℕ) (before : State) (step : Step) (later : State) (outLater : List ℕ) (j : ℕ) : Type 0 where
+pub record Reads (out : List ℕ) (i : ℕ) (before : State) (step : Outcome) (later : State) (outLater : List ℕ) (j : ℕ) : Type 0 where
   pub state : later ≡ cond (hasRoom out i) (step .state) before
   pub bytes : outLater ≡ cond (hasRoom out i) (sets out i (step .text)) out
   pub end : j ≡ cond (hasRoom out i) (i + length (step .text)) i
@@ -41,18 +41,18 @@ isRun l filled =
     cond (eqb (placeOf 10 l) (length l)) false
     (cond (isUnreadable (runLine (lineAt l))) false (leb (filled + getD (runLine (lineAt l)) 0 0) mostReadings))
 
-unfoldable pub isRunDue : List ℕ → State → Bool
-isRunDue l s = eqb (s .due) runDue && isRun l (length (s .entered .delivered))
+unfoldable pub isRunExpected : List ℕ → State → Bool
+isRunExpected l s = eqb (s .expected) runExpected && isRun l (length (s .entered .delivered))
 
 -- How many bytes the run lines at the front of an input have, and the state after them; n bounds how many lines they are.
 unfoldable pub runsBytes : ℕ → List ℕ → State → ℕ
 runsBytes zero l s = zero
 runsBytes (suc n) l s =
-    cond (isRunDue l s) (placeOf 10 l + 1 + runsBytes n (drop (placeOf 10 l + 1) l) (lineRead (lineAt l) s .state)) zero
+    cond (isRunExpected l s) (placeOf 10 l + 1 + runsBytes n (drop (placeOf 10 l + 1) l) (lineRead (lineAt l) s .state)) zero
 
 unfoldable pub runsState : ℕ → List ℕ → State → State
 runsState zero l s = s
-runsState (suc n) l s = cond (isRunDue l s) (runsState n (drop (placeOf 10 l + 1) l) (lineRead (lineAt l) s .state)) s
+runsState (suc n) l s = cond (isRunExpected l s) (runsState n (drop (placeOf 10 l + 1) l) (lineRead (lineAt l) s .state)) s
 
 -- They were read.
 pub record RunsRead (before : State) (input : List ℕ) (taken : ℕ) (later : State) : Type 0 where
@@ -60,7 +60,7 @@ pub record RunsRead (before : State) (input : List ℕ) (taken : ℕ) (later : S
   pub state : later ≡ runsState (length input) input before
 
 -- The rest is what the private functions promise each other: the same where a text fits.
-pub record Ends (out : List ℕ) (i : ℕ) (step : Step) (later : State) (outLater : List ℕ) (j : ℕ) : Type 0 where
+pub record Ends (out : List ℕ) (i : ℕ) (step : Outcome) (later : State) (outLater : List ℕ) (j : ℕ) : Type 0 where
   pub state : later ≡ step .state
   pub text : Wrote out i (step .text) outLater j
 
@@ -68,13 +68,13 @@ pub record Ends (out : List ℕ) (i : ℕ) (step : Step) (later : State) (outLat
 abbrev pub StandsAs : (State → State) → Progress → Progress → Type 0
 StandsAs f before later = (d e : List ℕ) → stateOf later d e ≡ f (stateOf before d e)
 
-abbrev pub EndsAs : (State → Step) → List ℕ → ℕ → Progress → Progress → List ℕ → ℕ → Type 0
+abbrev pub EndsAs : (State → Outcome) → List ℕ → ℕ → Progress → Progress → List ℕ → ℕ → Type 0
 EndsAs f out i before later outLater j = (d e : List ℕ) → Ends out i (f (stateOf before d e)) (stateOf later d e) outLater j
 
--- The opening's numbers with those of the line that is due.
+-- The opening's numbers with those of the line that is expected.
 unfoldable pub valuesWith : List ℕ → ℕ → Numbers → List ℕ
-valuesWith xs due v =
-    cond (eqb due 6) (sets xs 6 (v .first ∷ v .second ∷ v .third ∷ v .fourth ∷ [])) (sets xs (placeOfLine due) (v .first ∷ []))
+valuesWith xs expected v =
+    cond (eqb expected 6) (sets xs 6 (v .first ∷ v .second ∷ v .third ∷ v .fourth ∷ [])) (sets xs (placeOfLine expected) (v .first ∷ []))
 
 -- The run line at the front of an input, where it fits after so many readings.
 unfoldable pub runAt : List ℕ → ℕ → Run
@@ -91,7 +91,7 @@ runAt l filled =
 -- Whatever the registers hold, the later progress has this number of lines, and so many readings at their fronts.
 abbrev pub ranTo : Progress → ℕ → List ℕ → List ℕ → State
 ranTo x number delivered received =
-    state number (x .due) (x .values) (x .account) (monthOf (x .month) (x .critical) delivered received)
+    state number (x .expected) (x .values) (x .account) (monthOf (x .month) (x .critical) delivered received)
 
 abbrev pub StandsAfter : Progress → ℕ → ℕ → Progress → Type 0
 StandsAfter before number filled later = (d e : List ℕ) → stateOf later d e ≡ ranTo before number (take filled d) (take filled e)

@@ -24,30 +24,30 @@ pub record Month : Type 0 where
 abbrev pub monthOf : ℕ → ℕ → List ℕ → List ℕ → Month
 monthOf m x d e = record { month = m; critical = x; delivered = d; received = e }
 
--- What has been read: how many lines, which line is due, the opening's seventeen numbers in the order of its lines (those not read yet are 0),
--- the account, and the month that is being read.
+-- What has been read: how many lines, which line is expected next, the opening's seventeen numbers in the order of its lines (those not read
+-- yet are 0), the account, and the month that is being read.
 pub record State : Type 0 where
-  pub number : ℕ
-  pub due : ℕ
+  pub lines : ℕ
+  pub expected : ℕ
   pub values : List ℕ
   pub account : Account
   pub entered : Month
 
 abbrev pub state : ℕ → ℕ → List ℕ → Account → Month → State
-state n d xs a m = record { number = n; due = d; values = xs; account = a; entered = m }
+state n d xs a m = record { lines = n; expected = d; values = xs; account = a; entered = m }
 
--- "the first fourteen open the account": line k + 1 is due where due is k. Then "each month follows as bill, critical and any number of runs":
--- after the opening a bill line is due, then a critical line, then a run or the next bill line.
-abbrev pub billDue : ℕ
-billDue = 14
+-- "the first fourteen open the account": line k + 1 is expected where the number is k. Then "each month follows as bill, critical and any
+-- number of runs": after the opening a bill line is expected, then a critical line, then a run or the next bill line.
+abbrev pub billExpected : ℕ
+billExpected = 14
 
-abbrev pub criticalDue : ℕ
-criticalDue = 15
+abbrev pub criticalExpected : ℕ
+criticalExpected = 15
 
-abbrev pub runDue : ℕ
-runDue = 16
+abbrev pub runExpected : ℕ
+runExpected = 16
 
--- After a fault no line is due.
+-- After a fault no line is expected.
 abbrev pub stopped : ℕ
 stopped = 17
 
@@ -56,12 +56,12 @@ abbrev pub start : State
 start = state 0 0 (replicate 17 0) freshAccount (monthOf 0 0 [] [])
 
 -- The state after a line, and what it prints.
-pub record Step : Type 0 where
+pub record Outcome : Type 0 where
   pub state : State
   pub text : List ℕ
 
-abbrev pub printing : List ℕ → State → Step
-printing text s = record { state = s; text = text }
+abbrev pub outcome : List ℕ → State → Outcome
+outcome text s = record { state = s; text = text }
 
 abbrev pub isUnreadable : List ℕ → Bool
 isUnreadable v = eqb (length v) 0
@@ -74,12 +74,12 @@ unfoldable pub nextNumber : ℕ → ℕ
 nextNumber n = cond (ltb n lastNumber) (n + 1) n
 
 unfoldable pub counted : State → State
-counted s = state (nextNumber (s .number)) (s .due) (s .values) (s .account) (s .entered)
+counted s = state (nextNumber (s .lines)) (s .expected) (s .values) (s .account) (s .entered)
 
 -- "A line out of order, unreadable or absent where one is due, or a run past 2,976 readings, prints `line=` with its number counted from 1 and
 -- stops; an opening or month still being read prints nothing."
-unfoldable pub stop : State → Step
-stop s = printing (lineText (s .number)) (state (s .number) stopped (s .values) (s .account) (s .entered))
+unfoldable pub fault : State → Outcome
+fault s = outcome (lineText (s .lines)) (state (s .lines) stopped (s .values) (s .account) (s .entered))
 
 -- The numbers of line k + 1 stand at place k, but for the four prices of line 7, which move the later ones by three.
 abbrev pub placeOfLine : ℕ → ℕ
@@ -87,33 +87,33 @@ placeOfLine k = cond (leb k 6) k (k + 3)
 
 -- "It prints the opening's number once line 14 is read"; xs are the opening's numbers. They stand where the record of an opening has its terms
 -- and prices (`termsAt`, `pricesAt`), with the first month at place 0.
-unfoldable pub opened : List ℕ → State → Step
+unfoldable pub opened : List ℕ → State → Outcome
 opened xs s =
     let r : Reply = openingReply (s .account) (termsAt xs) (pricesAt xs) (getD xs 0 0) in
-    printing (openText (r .number)) (state (s .number) billDue xs (r .account) (s .entered))
+    outcome (openText (r .number)) (state (s .lines) billExpected xs (r .account) (s .entered))
 
 -- A line of the opening.
-unfoldable pub openingRead : List ℕ → State → Step
+unfoldable pub openingRead : List ℕ → State → Outcome
 openingRead v s =
-    let xs : List ℕ = sets (s .values) (placeOfLine (s .due)) v in
-    cond (isUnreadable v) (stop s)
-    (cond (ltb (s .due) 13) (printing [] (state (s .number) (s .due + 1) xs (s .account) (s .entered))) (opened xs s))
+    let xs : List ℕ = sets (s .values) (placeOfLine (s .expected)) v in
+    cond (isUnreadable v) (fault s)
+    (cond (ltb (s .expected) 13) (outcome [] (state (s .lines) (s .expected + 1) xs (s .account) (s .entered))) (opened xs s))
 
 -- A month begins with its bill line; it has no readings yet.
 abbrev pub begun : ℕ → State → State
-begun m s = state (s .number) criticalDue (s .values) (s .account) (monthOf m (s .entered .critical) [] [])
+begun m s = state (s .lines) criticalExpected (s .values) (s .account) (monthOf m (s .entered .critical) [] [])
 
-unfoldable pub billRead : List ℕ → State → Step
-billRead v s = cond (isUnreadable v) (stop s) (printing [] (begun (getD v 0 0) s))
+unfoldable pub billRead : List ℕ → State → Outcome
+billRead v s = cond (isUnreadable v) (fault s) (outcome [] (begun (getD v 0 0) s))
 
 -- Its critical line.
 abbrev pub withCritical : ℕ → State → State
 withCritical x s =
-    state (s .number) runDue (s .values) (s .account)
+    state (s .lines) runExpected (s .values) (s .account)
     (monthOf (s .entered .month) x (s .entered .delivered) (s .entered .received))
 
-unfoldable pub criticalRead : List ℕ → State → Step
-criticalRead v s = cond (isUnreadable v) (stop s) (printing [] (withCritical (getD v 0 0) s))
+unfoldable pub criticalRead : List ℕ → State → Outcome
+criticalRead v s = cond (isUnreadable v) (fault s) (outcome [] (withCritical (getD v 0 0) s))
 
 -- "any number of runs (count, delivered, received)": so many more readings of each register, in all at most 2,976.
 abbrev pub mostReadings : ℕ
@@ -121,14 +121,14 @@ mostReadings = 2976
 
 abbrev pub withRun : ℕ → ℕ → ℕ → State → State
 withRun count d e s =
-    state (s .number) (s .due) (s .values) (s .account)
+    state (s .lines) (s .expected) (s .values) (s .account)
     (monthOf (s .entered .month) (s .entered .critical)
     (s .entered .delivered ++ replicate count d)
     (s .entered .received ++ replicate count e))
 
-unfoldable pub runRead : ℕ → ℕ → ℕ → State → Step
+unfoldable pub runRead : ℕ → ℕ → ℕ → State → Outcome
 runRead count d e s =
-    cond (ltb mostReadings (length (s .entered .delivered) + count)) (stop s) (printing [] (withRun count d e s))
+    cond (ltb mostReadings (length (s .entered .delivered) + count)) (fault s) (outcome [] (withRun count d e s))
 
 -- "for each month, when it is complete, the month as entered, its number, the seven energy rows by period .., energy and due; a refused
 -- month's amounts are 0"
@@ -136,35 +136,35 @@ abbrev pub monthReply : State → BillingReply
 monthReply s =
     billingReply (s .account) (s .entered .month) (s .entered .delivered) (s .entered .received) (s .entered .critical)
 
-unfoldable pub monthEnd : State → Step
+unfoldable pub monthEnd : State → Outcome
 monthEnd s =
     let r : BillingReply = monthReply s in
-    printing (billText (s .entered .month) (r .number) (r .bill)) (state (s .number) (s .due) (s .values) (r .account) (s .entered))
+    outcome (billText (s .entered .month) (r .number) (r .bill)) (state (s .lines) (s .expected) (s .values) (r .account) (s .entered))
 
 -- "it is complete when a readable bill line or the end of the input follows its critical line or a run"
-unfoldable pub laterRead : List ℕ → State → Step
-laterRead l s =
+unfoldable pub runOrBillRead : List ℕ → State → Outcome
+runOrBillRead l s =
     cond (not (isUnreadable (runLine l))) (runRead (getD (runLine l) 0 0) (getD (runLine l) 1 0) (getD (runLine l) 2 0) s)
-    (cond (isUnreadable (billLine l)) (stop s)
-    (printing (monthEnd s .text) (begun (getD (billLine l) 0 0) (monthEnd s .state))))
+    (cond (isUnreadable (billLine l)) (fault s)
+    (outcome (monthEnd s .text) (begun (getD (billLine l) 0 0) (monthEnd s .state))))
 
--- A line, by what is due. After a fault it is only counted, and nothing is printed.
-unfoldable pub dueRead : List ℕ → State → Step
-dueRead l s =
-    cond (ltb (s .due) billDue) (openingRead (openingLine (s .due) l) s)
-    (cond (eqb (s .due) billDue) (billRead (billLine l) s)
-    (cond (eqb (s .due) criticalDue) (criticalRead (criticalLine l) s)
-    (cond (eqb (s .due) runDue) (laterRead l s) (printing [] s))))
+-- A line, by what is expected. After a fault it is only counted, and nothing is printed.
+unfoldable pub expectedRead : List ℕ → State → Outcome
+expectedRead l s =
+    cond (ltb (s .expected) billExpected) (openingRead (openingLine (s .expected) l) s)
+    (cond (eqb (s .expected) billExpected) (billRead (billLine l) s)
+    (cond (eqb (s .expected) criticalExpected) (criticalRead (criticalLine l) s)
+    (cond (eqb (s .expected) runExpected) (runOrBillRead l s) (outcome [] s))))
 
-unfoldable pub lineRead : List ℕ → State → Step
-lineRead l s = dueRead l (counted s)
+unfoldable pub lineRead : List ℕ → State → Outcome
+lineRead l s = expectedRead l (counted s)
 
 -- The end of the input: it completes a month, and fourteen lines with nothing after them are complete; elsewhere a line is absent, and has the
 -- number that it would have had.
 unfoldable pub atEnd : State → List ℕ
 atEnd s =
-    cond (eqb (s .due) billDue || ltb runDue (s .due)) []
-    (cond (eqb (s .due) runDue) (monthEnd s .text) (lineText (nextNumber (s .number))))
+    cond (eqb (s .expected) billExpected || ltb runExpected (s .expected)) []
+    (cond (eqb (s .expected) runExpected) (monthEnd s .text) (lineText (nextNumber (s .lines))))
 
 -- What is printed from a state on.
 unfoldable pub textFrom : State → List (List ℕ) → List ℕ

@@ -8,18 +8,18 @@ ghost use lib.ListN.{length, take, replicate};
 ghost use Rattle.grammar.specs.Grammar.{openingLine, billLine, criticalLine, runLine};
 ghost use Rattle.numerals.specs.Reading.{numbersAs};
 ghost use Rattle.printing.specs.Writing.{hasRoom, Put};
-ghost use Rattle.progress.specs.Statement.{start, runDue, nextNumber, counted, begun, stop, monthReply, opened, openingRead, billRead, criticalRead, runRead, monthEnd, laterRead, dueRead, lineRead, atEnd};
+ghost use Rattle.progress.specs.Statement.{start, runExpected, nextNumber, counted, begun, fault, monthReply, opened, openingRead, billRead, criticalRead, runRead, monthEnd, runOrBillRead, expectedRead, lineRead, atEnd};
 ghost use Rattle.progress.specs.Progressing.{stateOf, valuesWith, StandsFor, StandsAs, Ends, EndsAs, Reads, runAt, StandsAfter, RunsRead};
 use account::Account;
 use account::BillingReply;
 use numerals::Numbers;
 
-// What is due after the opening's lines.
-const BILL_DUE: u32 = 14;
+// What is expected after the opening's lines.
+const BILL_EXPECTED: u32 = 14;
 
-const CRITICAL_DUE: u32 = 15;
+const CRITICAL_EXPECTED: u32 = 15;
 
-const RUN_DUE: u32 = 16;
+const RUN_EXPECTED: u32 = 16;
 
 const STOPPED: u32 = 17;
 
@@ -30,8 +30,8 @@ const MOST_READINGS: usize = 2976;
 
 // What the lines so far have given. The month's readings stand at the front of two registers that the caller lends.
 pub struct Progress {
-    number: u64,
-    due: u32,
+    lines: u64,
+    expected: u32,
     values: [u32; 17],
     account: Account,
     month: u32,
@@ -74,41 +74,41 @@ fn count(progress: Progress) -> Progress
     ensures { λ r. ⌜ StandsAs counted progress r ⌝ }
 {
     let mut next = progress;
-    next.number = next_number(progress.number);
+    next.lines = next_number(progress.lines);
     next
 }
 
 // A fault of the line that was counted last.
 fn stop_at(progress: Progress, out: &mut [u8], at: usize) -> Ended
     requires { ⌜ hasRoom (now out) at ≡ true ⌝ }
-    ensures { λ r. ⌜ EndsAs stop (now (out .entry)) at progress (r .progress) (now (out .exit)) (r .at) ⌝ }
+    ensures { λ r. ⌜ EndsAs fault (now (out .entry)) at progress (r .progress) (now (out .exit)) (r .at) ⌝ }
 {
     let mut next = progress;
-    next.due = STOPPED;
+    next.expected = STOPPED;
     Ended {
         progress: next,
-        at: printing::put_line(out, at, progress.number),
+        at: printing::put_line(out, at, progress.lines),
     }
 }
 
 // The opening's numbers with those of one line more.
-fn with_values(values: [u32; 17], due: u32, numbers: Numbers) -> [u32; 17]
-    requires { ⌜ due < 14 ⌝ }
-    ensures { λ r. ⌜ r ≡ valuesWith values due numbers ⌝ }
+fn with_values(values: [u32; 17], expected: u32, numbers: Numbers) -> [u32; 17]
+    requires { ⌜ expected < 14 ⌝ }
+    ensures { λ r. ⌜ r ≡ valuesWith values expected numbers ⌝ }
 {
     let mut next = values;
-    if due == 6 {
+    if expected == 6 {
         next[6] = numbers.first;
         next[7] = numbers.second;
         next[8] = numbers.third;
         next[9] = numbers.fourth;
         return next;
     }
-    if due < 6 {
-        next[due as usize] = numbers.first;
+    if expected < 6 {
+        next[expected as usize] = numbers.first;
         return next;
     }
-    next[due as usize + 3] = numbers.first;
+    next[expected as usize + 3] = numbers.first;
     next
 }
 
@@ -137,7 +137,7 @@ fn open(progress: Progress, values: [u32; 17], out: &mut [u8], at: usize) -> End
     let reply = account.opening(terms, prices, values[0]);
     let after = reply.account;
     let mut next = progress;
-    next.due = BILL_DUE;
+    next.expected = BILL_EXPECTED;
     next.values = values;
     next.account = after;
     Ended {
@@ -148,20 +148,20 @@ fn open(progress: Progress, values: [u32; 17], out: &mut [u8], at: usize) -> End
 
 // A line of the opening.
 fn opening_line(progress: Progress, line: &[u8], out: &mut [u8], at: usize) -> Ended
-    requires { ⌜ progress .due < 14 ⌝ }
+    requires { ⌜ progress .expected < 14 ⌝ }
     requires { ⌜ hasRoom (now out) at ≡ true ⌝ }
-    ensures { λ r. ⌜ EndsAs (openingRead (openingLine (progress .due) (now (line .entry)))) (now (out .entry)) at progress (r .progress) (now (out .exit)) (r .at) ⌝ }
+    ensures { λ r. ⌜ EndsAs (openingRead (openingLine (progress .expected) (now (line .entry)))) (now (out .entry)) at progress (r .progress) (now (out .exit)) (r .at) ⌝ }
 {
-    let due = progress.due;
-    let numbers = grammar::opening_line(due, line);
+    let expected = progress.expected;
+    let numbers = grammar::opening_line(expected, line);
     if numbers.count == 0 {
         return stop_at(progress, out, at);
     }
     let old = progress.values;
-    let values = with_values(old, due, numbers);
-    if due < 13 {
+    let values = with_values(old, expected, numbers);
+    if expected < 13 {
         let mut next = progress;
-        next.due = due + 1;
+        next.expected = expected + 1;
         next.values = values;
         return Ended { progress: next, at };
     }
@@ -173,7 +173,7 @@ fn begin_month(progress: Progress, month: u32) -> Progress
     ensures { λ r. ⌜ StandsAs (begun month) progress r ⌝ }
 {
     let mut next = progress;
-    next.due = CRITICAL_DUE;
+    next.expected = CRITICAL_EXPECTED;
     next.month = month;
     next.filled = 0;
     next
@@ -204,7 +204,7 @@ fn critical_line(progress: Progress, line: &[u8], out: &mut [u8], at: usize) -> 
         return stop_at(progress, out, at);
     }
     let mut next = progress;
-    next.due = RUN_DUE;
+    next.expected = RUN_EXPECTED;
     next.critical = numbers.first;
     Ended { progress: next, at }
 }
@@ -304,7 +304,7 @@ fn later_line(
     at: usize,
 ) -> Ended
     requires { ⌜ hasRoom (now out) at ≡ true ⌝ }
-    ensures { λ r. ⌜ Ends (now (out .entry)) at (laterRead (now (line .entry)) (stateOf progress (now (delivered .entry)) (now (received .entry)))) (stateOf (r .progress) (now (delivered .exit)) (now (received .exit))) (now (out .exit)) (r .at) ⌝ }
+    ensures { λ r. ⌜ Ends (now (out .entry)) at (runOrBillRead (now (line .entry)) (stateOf progress (now (delivered .entry)) (now (received .entry)))) (stateOf (r .progress) (now (delivered .exit)) (now (received .exit))) (now (out .exit)) (r .at) ⌝ }
 {
     let numbers = grammar::run_line(line);
     if numbers.count != 0 {
@@ -358,13 +358,13 @@ fn with_runs(progress: Progress, number: u64, filled: usize) -> Progress
     ensures { λ r. ⌜ StandsAfter progress number filled r ⌝ }
 {
     let mut next = progress;
-    next.number = number;
+    next.lines = number;
     next.filled = filled;
     next
 }
 
-// A line, by what is due.
-fn due_line(
+// A line, by what is expected.
+fn expected_line(
     progress: Progress,
     line: &[u8],
     delivered: &mut [u32; 2976],
@@ -373,19 +373,19 @@ fn due_line(
     at: usize,
 ) -> Ended
     requires { ⌜ hasRoom (now out) at ≡ true ⌝ }
-    ensures { λ r. ⌜ Ends (now (out .entry)) at (dueRead (now (line .entry)) (stateOf progress (now (delivered .entry)) (now (received .entry)))) (stateOf (r .progress) (now (delivered .exit)) (now (received .exit))) (now (out .exit)) (r .at) ⌝ }
+    ensures { λ r. ⌜ Ends (now (out .entry)) at (expectedRead (now (line .entry)) (stateOf progress (now (delivered .entry)) (now (received .entry)))) (stateOf (r .progress) (now (delivered .exit)) (now (received .exit))) (now (out .exit)) (r .at) ⌝ }
 {
-    let due = progress.due;
-    if due < BILL_DUE {
+    let expected = progress.expected;
+    if expected < BILL_EXPECTED {
         return opening_line(progress, line, out, at);
     }
-    if due == BILL_DUE {
+    if expected == BILL_EXPECTED {
         return bill_line(progress, line, out, at);
     }
-    if due == CRITICAL_DUE {
+    if expected == CRITICAL_EXPECTED {
         return critical_line(progress, line, out, at);
     }
-    if due == RUN_DUE {
+    if expected == RUN_EXPECTED {
         return later_line(progress, line, delivered, received, out, at);
     }
     Ended { progress, at }
@@ -398,8 +398,8 @@ impl Progress {
     {
         let account = Account::fresh();
         Progress {
-            number: 0,
-            due: 0,
+            lines: 0,
+            expected: 0,
             values: [0; 17],
             account,
             month: 0,
@@ -410,9 +410,9 @@ impl Progress {
 
     // Whether a fault has stopped it.
     pub fn is_stopped(self) -> bool
-        ensures { λ r. ⌜ r ≡ ltb runDue (self .due) ⌝ }
+        ensures { λ r. ⌜ r ≡ ltb runExpected (self .expected) ⌝ }
     {
-        RUN_DUE < self.due
+        RUN_EXPECTED < self.expected
     }
 
     // Reads a line and writes its text, where there is room; elsewhere nothing changes.
@@ -427,7 +427,7 @@ impl Progress {
         ensures { λ r. ⌜ Reads (now (out .entry)) at (stateOf self (now (delivered .entry)) (now (received .entry))) (lineRead (now (line .entry)) (stateOf self (now (delivered .entry)) (now (received .entry)))) (stateOf (r .progress) (now (delivered .exit)) (now (received .exit))) (now (out .exit)) (r .at) ⌝ }
     {
         if printing::has_room(out, at) {
-            return due_line(count(self), line, delivered, received, out, at);
+            return expected_line(count(self), line, delivered, received, out, at);
         }
         Ended { progress: self, at }
     }
@@ -441,13 +441,13 @@ impl Progress {
     ) -> Ran
         ensures { λ r. ⌜ RunsRead (stateOf self (now (delivered .entry)) (now (received .entry))) (now (input .entry)) (r .taken) (stateOf (r .progress) (now (delivered .exit)) (now (received .exit))) ⌝ }
     {
-        if self.due != RUN_DUE {
+        if self.expected != RUN_EXPECTED {
             return Ran {
                 progress: self,
                 taken: 0,
             };
         }
-        let mut number = self.number;
+        let mut number = self.lines;
         let mut filled = readings(received, readings(delivered, self.filled));
         let mut taken = 0;
         while taken < input.len() {
@@ -474,17 +474,17 @@ impl Progress {
     pub fn finish(self, delivered: &[u32], received: &[u32], out: &mut [u8], at: usize) -> usize
         ensures { λ r. ⌜ Put (now (out .entry)) at (atEnd (stateOf self (now (delivered .entry)) (now (received .entry)))) (now (out .exit)) r ⌝ }
     {
-        if self.due == BILL_DUE {
+        if self.expected == BILL_EXPECTED {
             return at;
         }
-        if RUN_DUE < self.due {
+        if RUN_EXPECTED < self.expected {
             return at;
         }
-        if self.due == RUN_DUE {
+        if self.expected == RUN_EXPECTED {
             let reply = bill(self, delivered, received);
             let amounts = reply.bill;
             return printing::put_bill(out, at, self.month, reply.number, amounts);
         }
-        printing::put_line(out, at, next_number(self.number))
+        printing::put_line(out, at, next_number(self.lines))
     }
 }

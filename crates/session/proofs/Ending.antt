@@ -10,23 +10,23 @@ use lib.Seq.{sets, length-sets}
 use Rattle.printing.specs.Writing.{hasRoom, Wrote, Put}
 use Rattle.progress.specs.Statement.{State, lineRead, atEnd}
 use Rattle.progress.specs.Progressing.{Reads}
-use Rattle.session.specs.Feeding.{Reading, ending}
+use Rattle.session.specs.Feeding.{SoFar, ending}
 use Rattle.session.specs.Sessions.{Finishes}
 use Rattle.session.proofs.Lines.{text-fits, end-fits}
 use Rattle.session.proofs.Keeping.{least-taken}
 use Rattle.session.proofs.Going.{then}
 
-abbrev holding : List ℕ → State → Reading
+abbrev holding : List ℕ → State → SoFar
 holding l s = record { line = l; state = s }
 
 -- Without room nothing is written.
-pub finish-none : (x : Reading) (out : List ℕ) → length out < 2048 → Finishes x out 0 out
+pub finish-none : (x : SoFar) (out : List ℕ) → length out < 2048 → Finishes x out 0 out
 finish-none x out h =
     let no = lt-leb 2048 (length out) h in
     record { bytes = rw no; end = rw no; fits = omega arith }
 
 -- With room a text is written that fits.
-wrote-all : {x : Reading} {out outLater : List ℕ} {j : ℕ} → 2048 ≤ length out → length (ending x) ≤ 2048 → Wrote out 0 (ending x) outLater j
+wrote-all : {x : SoFar} {out outLater : List ℕ} {j : ℕ} → 2048 ≤ length out → length (ending x) ≤ 2048 → Wrote out 0 (ending x) outLater j
     → Finishes x out j outLater
 wrote-all {out = out} h k w =
     let yes = le-leb 2048 (length out) h in

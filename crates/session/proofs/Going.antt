@@ -9,7 +9,7 @@ use borrow.Author.Tests.{leb-true, leb-false, not-true, not-false}
 use lib.ListN.{length, set, take, drop, length-append, length-drop, drop-of-length-le}
 use lib.Seq.{sets, length-sets, take-all, take-add, drop-drop}
 use Rattle.printing.specs.Writing.{hasRoom, Wrote}
-use Rattle.session.specs.Feeding.{Reading, after, printed, takenOf}
+use Rattle.session.specs.Feeding.{SoFar, after, printed, takenOf}
 use Rattle.session.specs.Sessions.{Feeds, Takes}
 use Rattle.session.proofs.Streams.{cut-text, cut-state}
 use Rattle.session.proofs.Taking.{none-taken}
@@ -27,26 +27,26 @@ then {o} {o1} {o2} {xs} {ys} {i} {j} {k} p q =
       end = rw length-append (omega arith);
     }
 
-pub record Going (before : Reading) (input out : List ℕ) (taken : ℕ) (current : Reading) (written : ℕ) (outCurrent : List ℕ) : Type 0 where
+pub record Going (before : SoFar) (input out : List ℕ) (taken : ℕ) (current : SoFar) (written : ℕ) (outCurrent : List ℕ) : Type 0 where
   pub takes : takenOf (length out) before input ≡ taken + takenOf (length out - written) current (drop taken input)
-  pub reading : current ≡ after before (take taken input)
+  pub stands : current ≡ after before (take taken input)
   pub text : Wrote out 0 (printed before (take taken input)) outCurrent written
   pub inside : taken ≤ length input
   pub fits : written ≤ length out
 
 -- At the start.
-pub going-start : (before : Reading) (input out : List ℕ) → Going before input out 0 before 0 out
+pub going-start : (before : SoFar) (input out : List ℕ) → Going before input out 0 before 0 out
 unfolding after printed
 going-start before input out =
     record {
       takes = rw (sub-zero (length out)) (omega arith);
-      reading = refl;
+      stands = refl;
       text = record { bytes = refl; end = refl };
       inside = omega arith;
       fits = omega arith;
     }
 
-pub same-long : {before current : Reading} {input out outCurrent : List ℕ} {taken written : ℕ}
+pub same-long : {before current : SoFar} {input out outCurrent : List ℕ} {taken written : ℕ}
     → Going before input out taken current written outCurrent → length outCurrent ≡ length out
 same-long g = ap length (g .text .bytes) ∙ simp length-sets
 
@@ -69,14 +69,14 @@ pub rest-of : (input : List ℕ) (taken : ℕ) → take (length input - taken) (
 rest-of input taken = take-all (length input - taken) (drop taken input) (omega (arith, length-drop taken input))
 
 -- Some bytes more.
-pub more-taken : {before later : Reading} {out outLater : List ℕ} {i j : ℕ} (input : List ℕ) (taken t : ℕ) → taken < length input
+pub more-taken : {before later : SoFar} {out outLater : List ℕ} {i j : ℕ} (input : List ℕ) (taken t : ℕ) → taken < length input
     → Takes before (take (length input - taken) (drop taken input)) out i t later j outLater → (0 < t) × (taken + t ≤ length input)
 more-taken input taken t h made =
     let l = rw (rest-of input taken) at made in
     let long = length-drop taken input in
     (l .some (omega arith), omega (arith, l .inside))
 
-module _ {before current later : Reading} {input out outCurrent outLater : List ℕ} {taken written t j : ℕ} where
+module _ {before current later : SoFar} {input out outCurrent outLater : List ℕ} {taken written t j : ℕ} where
   pub going-more : Going before input out taken current written outCurrent → taken < length input → hasRoom outCurrent written ≡ true
       → Takes current (take (length input - taken) (drop taken input)) outCurrent written t later j outLater
       → Going before input out (taken + t) later j outLater
@@ -88,30 +88,30 @@ module _ {before current later : Reading} {input out outCurrent outLater : List 
       let short : length text ≤ 1024 = l .short in
       let both : take (taken + t) input ≡ take taken input ++ take t rest = take-add taken t input in
       let state : after before (take (taken + t) input) ≡ later
-      = rw (both, cut-state before (take taken input) (take t rest), ← g .reading) (sym (l .reading)) in
+      = rw (both, cut-state before (take taken input) (take t rest), ← g .stands) (sym (l .stands)) in
       let texts : printed before (take (taken + t) input) ≡ printed before (take taken input) ++ text
-      = rw (both, cut-text before (take taken input) (take t rest), ← g .reading) in
+      = rw (both, cut-text before (take taken input) (take t rest), ← g .stands) in
       let room-later : length out - written - length text ≡ length out - j = omega (arith, l .text .end) in
       let line = l .rest (length out - written) (omega arith) in
       record {
         takes = let later-taken = rw (room-later, drop-drop) at line in omega (arith, g .takes);
-        reading = sym state;
+        stands = sym state;
         text = rw texts (then (g .text) (l .text));
         inside = more-taken input taken t h made .1;
         fits = omega (arith, l .text .end);
       }
 
 -- Without room, and at the end of the input, it stops.
-module _ {before current : Reading} {input out outCurrent : List ℕ} {taken written : ℕ} where
+module _ {before current : SoFar} {input out outCurrent : List ℕ} {taken written : ℕ} where
   pub going-none : Going before input out taken current written outCurrent → hasRoom outCurrent written ≡ false
       → Feeds before input out taken current written outCurrent
   going-none g room =
       let none = none-taken (length out - written) current (drop taken input) (omega (arith, no-room outCurrent written room, same-long g)) in
-      record { takes = omega (arith, g .takes); reading = g .reading; text = g .text; inside = g .inside; fits = g .fits }
+      record { takes = omega (arith, g .takes); stands = g .stands; text = g .text; inside = g .inside; fits = g .fits }
 
   pub going-all : Going before input out taken current written outCurrent → length input ≤ taken
       → Feeds before input out taken current written outCurrent
   unfolding takenOf
   going-all g h =
       let none : takenOf (length out - written) current (drop taken input) ≡ 0 = rw (drop-of-length-le input h) in
-      record { takes = omega (arith, g .takes); reading = g .reading; text = g .text; inside = g .inside; fits = g .fits }
+      record { takes = omega (arith, g .takes); stands = g .stands; text = g .text; inside = g .inside; fits = g .fits }

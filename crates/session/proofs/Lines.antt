@@ -12,19 +12,19 @@ use Rattle.grammar.specs.Grammar.{openingLine, billLine, criticalLine, runLine}
 use Rattle.grammar.proofs.Laws.{opening-short, bill-short, critical-short, run-short}
 use Rattle.printing.specs.Printing.{lineText}
 use Rattle.printing.proofs.Laws.{bill-fits, open-fits, line-fits}
-use Rattle.progress.specs.Statement.{State, Step, counted, stop, opened, openingRead, billRead, criticalRead, runRead, monthEnd, laterRead}
-use Rattle.progress.specs.Statement.{dueRead, lineRead, atEnd, billDue, criticalDue, runDue, printing, nextNumber, isUnreadable}
+use Rattle.progress.specs.Statement.{State, Outcome, counted, fault, opened, openingRead, billRead, criticalRead, runRead, monthEnd, runOrBillRead}
+use Rattle.progress.specs.Statement.{expectedRead, lineRead, atEnd, billExpected, criticalExpected, runExpected, outcome, nextNumber, isUnreadable}
 
 -- All lines of more than 50 bytes are read alike: they are unreadable.
 long-alike : (l m : List ℕ) (s : State) → 50 < length l → 50 < length m → lineRead l s ≡ lineRead m s
-unfolding lineRead dueRead laterRead
+unfolding lineRead expectedRead runOrBillRead
 long-alike l m s h k =
     simp (
-      opening-short (counted s .due) l h,
+      opening-short (counted s .expected) l h,
       bill-short l h,
       critical-short l h,
       run-short l h,
-      opening-short (counted s .due) m k,
+      opening-short (counted s .expected) m k,
       bill-short m k,
       critical-short m k,
       run-short m k,
@@ -41,19 +41,19 @@ line-cut l s = by (leb (length l) 51) refl
         long-alike (take 51 l) l s (omega (arith, length-take-le 51 l (omega arith))) (omega arith)
 
 -- A text that a step prints fits.
-record Fits (x : Step) : Type 0 where
+record Fits (x : Outcome) : Type 0 where
   pub long : length (x .text) ≤ 1024
 
-either : (t : Bool) {x y : Step} → Fits x → Fits y → Fits (cond t x y)
+either : (t : Bool) {x y : Outcome} → Fits x → Fits y → Fits (cond t x y)
 either true p q = p
 either false p q = q
 
-none : (s : State) → Fits (printing [] s)
+none : (s : State) → Fits (outcome [] s)
 none s = record { long = omega arith }
 
-stop-fits : (s : State) → Fits (stop s)
-unfolding stop
-stop-fits s = record { long = omega (arith, line-fits (s .number)) }
+stop-fits : (s : State) → Fits (fault s)
+unfolding fault
+stop-fits s = record { long = omega (arith, line-fits (s .lines)) }
 
 opened-fits : (xs : List ℕ) (s : State) → Fits (opened xs s)
 unfolding opened
@@ -65,7 +65,7 @@ month-fits s = let h : length (monthEnd s .text) ≤ 1024 = bill-fits _ _ _ in o
 
 opening-fits : (v : List ℕ) (s : State) → Fits (openingRead v s)
 unfolding openingRead
-opening-fits v s = either (isUnreadable v) (stop-fits s) (either (ltb (s .due) 13) (none _) (opened-fits _ s))
+opening-fits v s = either (isUnreadable v) (stop-fits s) (either (ltb (s .expected) 13) (none _) (opened-fits _ s))
 
 month-line-fits : (v : List ℕ) (s : State) → Fits (billRead v s)
 unfolding billRead
@@ -79,29 +79,29 @@ run-fits : (n d e : ℕ) (s : State) → Fits (runRead n d e s)
 unfolding runRead
 run-fits n d e s = either (ltb 2976 (length (s .entered .delivered) + n)) (stop-fits s) (none _)
 
-later-fits : (l : List ℕ) (s : State) → Fits (laterRead l s)
-unfolding laterRead
+later-fits : (l : List ℕ) (s : State) → Fits (runOrBillRead l s)
+unfolding runOrBillRead
 later-fits l s =
     either (not (isUnreadable (runLine l))) (run-fits (getD (runLine l) 0 0) (getD (runLine l) 1 0) (getD (runLine l) 2 0) s)
     (either (isUnreadable (billLine l)) (stop-fits s) (record { long = month-fits s }))
 
-due-fits : (l : List ℕ) (s : State) → Fits (dueRead l s)
-unfolding dueRead
-due-fits l s =
-    either (ltb (s .due) billDue) (opening-fits (openingLine (s .due) l) s)
-    (either (eqb (s .due) billDue) (month-line-fits (billLine l) s)
-    (either (eqb (s .due) criticalDue) (critical-fits (criticalLine l) s) (either (eqb (s .due) runDue) (later-fits l s) (none s))))
+expected-fits : (l : List ℕ) (s : State) → Fits (expectedRead l s)
+unfolding expectedRead
+expected-fits l s =
+    either (ltb (s .expected) billExpected) (opening-fits (openingLine (s .expected) l) s)
+    (either (eqb (s .expected) billExpected) (month-line-fits (billLine l) s)
+    (either (eqb (s .expected) criticalExpected) (critical-fits (criticalLine l) s) (either (eqb (s .expected) runExpected) (later-fits l s) (none s))))
 
 pub text-fits : (l : List ℕ) (s : State) → length (lineRead l s .text) ≤ 1024
 unfolding lineRead
-text-fits l s = due-fits l (counted s) .long
+text-fits l s = expected-fits l (counted s) .long
 
 -- The same of what the end of the input prints.
 pub end-fits : (s : State) → length (atEnd s) ≤ 1024
 unfolding atEnd
-end-fits s = by (eqb (s .due) billDue || ltb runDue (s .due)) (eqb (s .due) runDue)
+end-fits s = by (eqb (s .expected) billExpected || ltb runExpected (s .expected)) (eqb (s .expected) runExpected)
   where
-    by : (t u : Bool) → length (cond t [] (cond u (monthEnd s .text) (lineText (nextNumber (s .number))))) ≤ 1024
+    by : (t u : Bool) → length (cond t [] (cond u (monthEnd s .text) (lineText (nextNumber (s .lines))))) ≤ 1024
     by true u = omega arith
     by false true = month-fits s
-    by false false = omega (arith, line-fits (nextNumber (s .number)))
+    by false false = omega (arith, line-fits (nextNumber (s .lines)))

@@ -10,9 +10,9 @@ use lib.Seq.{take-add, drop-drop}
 use Rattle.text.specs.Text.{placeOf}
 use Rattle.printing.specs.Writing.{Wrote}
 use Rattle.progress.specs.Statement.{State, lineRead}
-use Rattle.progress.specs.Progressing.{lineAt, isRunDue, runsBytes, runsState, RunsRead}
-use Rattle.progress.proofs.RunLines.{due-newline, run-quiet, bytes-none, state-none, bytes-more, state-more}
-use Rattle.session.specs.Feeding.{Reading, after, printed, takenOf}
+use Rattle.progress.specs.Progressing.{lineAt, isRunExpected, runsBytes, runsState, RunsRead}
+use Rattle.progress.proofs.RunLines.{expected-newline, run-quiet, bytes-none, state-none, bytes-more, state-more}
+use Rattle.session.specs.Feeding.{SoFar, after, printed, takenOf}
 use Rattle.session.specs.Sessions.{lineBytes, TakesLine, Takes, held}
 use Rattle.session.proofs.Streams.{cut-text, cut-state, newline-state, newline-text}
 use Rattle.session.proofs.Lines.{line-cut}
@@ -21,22 +21,22 @@ use Rattle.session.proofs.Taking.{front-text, front-state, line-taken, 
 use Rattle.session.proofs.Turns.{after-newline, printed-newline}
 
 -- One line is some bytes.
-pub takes-line : {before later : Reading} {input out outLater : List ℕ} {i taken j : ℕ}
+pub takes-line : {before later : SoFar} {input out outLater : List ℕ} {i taken j : ℕ}
     → TakesLine before input out i taken later j outLater → Takes before input out i taken later j outLater
 takes-line {before} {later} {input} w =
     record {
       some = λ h. rw (w .takes) (bytes-some input h);
       inside = rw (w .takes) (bytes-within input);
-      reading = w .reading;
+      stands = w .stands;
       text = w .text;
       short = rw (w .takes) (line-text before input);
-      rest = λ room h. rw (w .reading, w .takes) (line-taken room before input h);
+      rest = λ room h. rw (w .stands, w .takes) (line-taken room before input h);
     }
 
 -- One run line.
-module _ (l : List ℕ) (s : State) (h : isRunDue l s ≡ true) where
+module _ (l : List ℕ) (s : State) (h : isRunExpected l s ≡ true) where
   whole : take (placeOf 10 l + 1) l ≡ lineAt l ++ 10 ∷ []
-  whole = newline-last l (due-newline l s h)
+  whole = newline-last l (expected-newline l s h)
 
   front : after (held [] s) (lineAt l) ≡ held (take 51 (lineAt l)) s
   front = front-state (held [] s) l (omega arith)
@@ -55,7 +55,7 @@ module _ (l : List ℕ) (s : State) (h : isRunDue l s ≡ true) where
       → takenOf room (held [] s) l ≡ placeOf 10 l + 1 + takenOf room (held [] (lineRead (lineAt l) s .state)) (drop (placeOf 10 l + 1) l)
   one-taken room k =
       let line = line-taken room (held [] s) l k in
-      rw (bytes-place l (due-newline l s h), one-text, one-state, sub-zero room) at line
+      rw (bytes-place l (expected-newline l s h), one-text, one-state, sub-zero room) at line
 
 -- All of them.
 record Quiet (l : List ℕ) (s : State) (t : ℕ) (later : State) : Type 0 where
@@ -68,7 +68,7 @@ quiet-none : (l : List ℕ) (s : State) → Quiet l s 0 s
 unfolding after printed
 quiet-none l s = record { inside = omega arith; state = refl; text = refl; rest = λ room h. omega arith }
 
-quiet-more : (l : List ℕ) (s : State) (t : ℕ) (later : State) → isRunDue l s ≡ true
+quiet-more : (l : List ℕ) (s : State) (t : ℕ) (later : State) → isRunExpected l s ≡ true
     → Quiet (drop (placeOf 10 l + 1) l) (lineRead (lineAt l) s .state) t later → Quiet l s (placeOf 10 l + 1 + t) later
 quiet-more l s t later h w =
     let k = placeOf 10 l + 1 in
@@ -76,7 +76,7 @@ quiet-more l s t later h w =
     let both : take (placeOf 10 l + 1 + t) l ≡ take (placeOf 10 l + 1) l ++ take t (drop (placeOf 10 l + 1) l)
     = take-add (placeOf 10 l + 1) t l in
     record {
-      inside = omega (arith, w .inside, length-drop (placeOf 10 l + 1) l, due-newline l s h);
+      inside = omega (arith, w .inside, length-drop (placeOf 10 l + 1) l, expected-newline l s h);
       state = rw (both, cut-state (held [] s) (take k l) (take t (drop k l)), one-state l s h) (w .state);
       text = rw (both, cut-text (held [] s) (take k l) (take t (drop k l)), one-text l s h, one-state l s h) (w .text);
       rest = λ room r. let more = rw drop-drop at (w .rest room r) in omega (arith, one-taken l s h room r, more);
@@ -85,9 +85,9 @@ quiet-more l s t later h w =
 quiet : (n : ℕ) (l : List ℕ) (s : State) → Quiet l s (runsBytes n l s) (runsState n l s)
 unfolding runsBytes runsState
 quiet zero l s = quiet-none l s
-quiet (suc n) l s = by (isRunDue l s) refl (quiet n (drop (placeOf 10 l + 1) l) (lineRead (lineAt l) s .state))
+quiet (suc n) l s = by (isRunExpected l s) refl (quiet n (drop (placeOf 10 l + 1) l) (lineRead (lineAt l) s .state))
   where
-    by : (b : Bool) → isRunDue l s ≡ b
+    by : (b : Bool) → isRunExpected l s ≡ b
         → Quiet (drop (placeOf 10 l + 1) l) (lineRead (lineAt l) s .state)
         (runsBytes n (drop (placeOf 10 l + 1) l) (lineRead (lineAt l) s .state))
         (runsState n (drop (placeOf 10 l + 1) l) (lineRead (lineAt l) s .state))
@@ -107,7 +107,7 @@ module _ (before later : State) (input out : List ℕ) (i taken : ℕ) (w : Runs
       record {
         some = λ k. omega (arith, h);
         inside = q .inside;
-        reading = sym (q .state);
+        stands = sym (q .state);
         text = rw text (record { bytes = refl; end = omega arith });
         short = rw text (omega arith);
         rest = λ room r. rw (text, sub-zero room) (q .rest room r);
@@ -119,13 +119,13 @@ module _ (before later : State) (input out : List ℕ) (i taken : ℕ) (w : Runs
   same-state h =
       let q = as-quiet in
       let e : after (held [] before) (take 0 input) ≡ held [] later = rw h at (q .state) in
-      sym (ap (λ (x : Reading). x .state) e)
+      sym (ap (λ (x : SoFar). x .state) e)
 
-  pub takes-none : {next : Reading} {outLater : List ℕ} {t j : ℕ} → taken ≡ 0 → TakesLine (held [] later) input out i t next j outLater
+  pub takes-none : {next : SoFar} {outLater : List ℕ} {t j : ℕ} → taken ≡ 0 → TakesLine (held [] later) input out i t next j outLater
       → Takes (held [] before) input out i t next j outLater
   takes-none h line = takes-line (rw (same-state h) at line)
 
 -- No byte is held.
-pub none-held : {s : State} {later : Reading} {input out outLater : List ℕ} {i t j : ℕ} (line : List ℕ) (n : ℕ) → n ≡ 0
+pub none-held : {s : State} {later : SoFar} {input out outLater : List ℕ} {i t j : ℕ} (line : List ℕ) (n : ℕ) → n ≡ 0
     → Takes (held [] s) input out i t later j outLater → Takes (held (take n line) s) input out i t later j outLater
 none-held line n e w = rw e w

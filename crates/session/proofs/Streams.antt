@@ -8,23 +8,23 @@ use borrow.Author.Tests.{ne-eqb, le-leb}
 use lib.Dec.{eqb}
 use lib.ListN.{length, take}
 use Rattle.progress.specs.Statement.{State, lineRead, atEnd, textFrom, linesFrom, statementOf}
-use Rattle.session.specs.Feeding.{Reading, begin, afterByte, byteText, after, printed, ending, takenOf, joined, piecesText, Streams}
+use Rattle.session.specs.Feeding.{SoFar, nothingRead, afterByte, byteText, after, printed, ending, takenOf, joined, piecesText, Streams}
 use Rattle.session.proofs.Lines.{line-cut}
 
-pub cut-text : (x : Reading) (bytes more : List ℕ) → printed x (bytes ++ more) ≡ printed x bytes ++ printed (after x bytes) more
+pub cut-text : (x : SoFar) (bytes more : List ℕ) → printed x (bytes ++ more) ≡ printed x bytes ++ printed (after x bytes) more
 unfolding printed after
 cut-text x [] more = refl
 cut-text x (b ∷ bytes) more =
     ap (λ (t : List ℕ). byteText x b ++ t) (cut-text (afterByte x b) bytes more)
     ∙ sym (append-assoc (byteText x b) (printed (afterByte x b) bytes) (printed (after (afterByte x b) bytes) more))
 
-pub cut-state : (x : Reading) (bytes more : List ℕ) → after x (bytes ++ more) ≡ after (after x bytes) more
+pub cut-state : (x : SoFar) (bytes more : List ℕ) → after x (bytes ++ more) ≡ after (after x bytes) more
 unfolding after
 cut-state x [] more = refl
 cut-state x (b ∷ bytes) more = cut-state (afterByte x b) bytes more
 
 -- A newline byte ends the line; another byte is kept.
-module _ (x : Reading) (b : ℕ) where
+module _ (x : SoFar) (b : ℕ) where
   pub newline-state : eqb b 10 ≡ true → afterByte x b ≡ record { line = []; state = lineRead (x .line) (x .state) .state }
   unfolding afterByte
   newline-state e = rw e
@@ -48,7 +48,7 @@ kept-again (suc n) [] more = refl
 kept-again (suc n) (b ∷ l) more = ap (λ (r : List ℕ). b ∷ r) (kept-again n l more)
 
 -- A line that isn't complete yet.
-abbrev unfinished : List ℕ → State → Reading
+abbrev unfinished : List ℕ → State → SoFar
 unfinished l s = record { line = take 51 l; state = s }
 
 last-line : (l : List ℕ) (s : State) → ending (unfinished l s) ≡ textFrom s (linesFrom l [])
@@ -74,14 +74,14 @@ from-line (b ∷ bytes) l s = by (eqb b 10) refl (from-line bytes [] (lineRead l
     by false e new same = rw (e, other-text (unfinished l s) b e, other-state (unfinished l s) b e, kept-again 51 l (b ∷ [])) same
 
 -- Pieces are read one after the other.
-pieces-from : (x : Reading) (ps : List (List ℕ)) → piecesText x ps ≡ printed x (joined ps) ++ ending (after x (joined ps))
+pieces-from : (x : SoFar) (ps : List (List ℕ)) → piecesText x ps ≡ printed x (joined ps) ++ ending (after x (joined ps))
 unfolding piecesText joined printed after
 pieces-from x [] = refl
 pieces-from x (p ∷ ps) =
     ap (λ (t : List ℕ). printed x p ++ t) (pieces-from (after x p) ps)
     ∙ sym (append-assoc (printed x p) (printed (after x p) (joined ps)) (ending (after (after x p) (joined ps))))
     ∙ ap (λ (t : List ℕ). t ++ ending (after (after x p) (joined ps))) (sym (cut-text x p (joined ps)))
-    ∙ ap (λ (y : Reading). printed x (p ++ joined ps) ++ ending y) (sym (cut-state x p (joined ps)))
+    ∙ ap (λ (y : SoFar). printed x (p ++ joined ps) ++ ending y) (sym (cut-state x p (joined ps)))
 
 pub streams : Streams
 unfolding statementOf
@@ -90,11 +90,11 @@ streams =
       whole = λ bytes. from-line bytes [] _;
       cut-text = cut-text;
       cut-state = cut-state;
-      pieces = λ ps. pieces-from begin ps ∙ from-line (joined ps) [] _;
+      pieces = λ ps. pieces-from nothingRead ps ∙ from-line (joined ps) [] _;
     }
 
 -- Where a text fits, a session takes at least one byte of an input that has any.
-pub taken-some : (room : ℕ) (x : Reading) (l : List ℕ) → 1024 ≤ room → 0 < length l → 0 < takenOf room x l
+pub taken-some : (room : ℕ) (x : SoFar) (l : List ℕ) → 1024 ≤ room → 0 < length l → 0 < takenOf room x l
 unfolding takenOf
 taken-some room x [] h k = absurd (omega arith)
 taken-some room x (b ∷ l) h k = rw (le-leb 1024 room h) (omega arith)

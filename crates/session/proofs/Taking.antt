@@ -12,7 +12,7 @@ use lib.ListN.{length, take, drop, length-take}
 use lib.Seq.{take-all}
 use Rattle.text.specs.Text.{placeOf}
 use Rattle.progress.specs.Statement.{State, lineRead}
-use Rattle.session.specs.Feeding.{Reading, afterByte, byteText, after, printed, takenOf}
+use Rattle.session.specs.Feeding.{SoFar, afterByte, byteText, after, printed, takenOf}
 use Rattle.session.specs.Sessions.{lineBytes}
 use Rattle.session.proofs.Lines.{text-fits}
 use Rattle.session.proofs.Streams.{cut-text, cut-state, newline-state, newline-text, other-state, other-text, kept-again}
@@ -75,7 +75,7 @@ newline-last (b ∷ l) h = by (eqb b 10) refl h (newline-last l)
     by false e h more = rw suc-add (ap (λ (r : List ℕ). b ∷ r) (more (omega arith)))
 
 -- Bytes before it are kept, and print nothing.
-pub front-text : (x : Reading) (l : List ℕ) → printed x (take (placeOf 10 l) l) ≡ []
+pub front-text : (x : SoFar) (l : List ℕ) → printed x (take (placeOf 10 l) l) ≡ []
 unfolding placeOf printed
 front-text x [] = refl
 front-text x (b ∷ l) = by (eqb b 10) refl (front-text (afterByte x b) l)
@@ -86,13 +86,13 @@ front-text x (b ∷ l) = by (eqb b 10) refl (front-text (afterByte x b) l)
     by false e more = rw (other-text x b e) more
 
 -- At most 51 bytes are kept.
-abbrev kept : Reading → List ℕ → Reading
+abbrev kept : SoFar → List ℕ → SoFar
 kept x l = record { line = take 51 (x .line ++ l); state = x .state }
 
-kept-none : (x : Reading) → length (x .line) ≤ 51 → x ≡ kept x []
+kept-none : (x : SoFar) → length (x .line) ≤ 51 → x ≡ kept x []
 kept-none x h = sym (rw (append-nil (x .line), take-all 51 (x .line) h))
 
-pub front-state : (x : Reading) (l : List ℕ) → length (x .line) ≤ 51
+pub front-state : (x : SoFar) (l : List ℕ) → length (x .line) ≤ 51
     → after x (take (placeOf 10 l) l) ≡ record { line = take 51 (x .line ++ take (placeOf 10 l) l); state = x .state }
 unfolding placeOf after
 front-state x [] h = kept-none x h
@@ -104,11 +104,11 @@ front-state x (b ∷ l) h = by (eqb b 10) refl
         → after x (take (cond t zero (suc (placeOf 10 l))) (b ∷ l)) ≡ kept x (take (cond t zero (suc (placeOf 10 l))) (b ∷ l))
     by true e more = kept-none x h
     by false e more =
-        ap (λ (y : Reading). after y (take (placeOf 10 l) l)) (other-state x b e)
+        ap (λ (y : SoFar). after y (take (placeOf 10 l) l)) (other-state x b e)
         ∙ more ∙ rw (kept-again 51 (x .line ++ b ∷ []) (take (placeOf 10 l) l), append-assoc)
 
 -- One line of the input is taken, and the rest of it from there on.
-pub line-taken : (room : ℕ) (x : Reading) (l : List ℕ) → 1024 ≤ room
+pub line-taken : (room : ℕ) (x : SoFar) (l : List ℕ) → 1024 ≤ room
     → takenOf room x l
     ≡ lineBytes l + takenOf (room - length (printed x (take (lineBytes l) l))) (after x (take (lineBytes l) l)) (drop (lineBytes l) l)
 unfolding takenOf lineBytes printed after
@@ -127,7 +127,7 @@ line-taken room x (b ∷ l) h = by (eqb b 10) refl (line-taken room (afterByte x
     by false e more = rw (le-leb 1024 room h, other-text x b e, sub-zero room) (omega arith)
 
 -- Its text fits.
-pub line-text : (x : Reading) (l : List ℕ) → length (printed x (take (lineBytes l) l)) ≤ 1024
+pub line-text : (x : SoFar) (l : List ℕ) → length (printed x (take (lineBytes l) l)) ≤ 1024
 unfolding lineBytes printed
 line-text x [] = omega arith
 line-text x (b ∷ l) = by (eqb b 10) refl (line-text (afterByte x b) l)
@@ -138,7 +138,7 @@ line-text x (b ∷ l) = by (eqb b 10) refl (line-text (afterByte x b) l)
     by false e more = rw (other-text x b e) more
 
 -- Without room nothing is.
-pub none-taken : (room : ℕ) (x : Reading) (l : List ℕ) → room < 1024 → takenOf room x l ≡ 0
+pub none-taken : (room : ℕ) (x : SoFar) (l : List ℕ) → room < 1024 → takenOf room x l ≡ 0
 unfolding takenOf
 none-taken room x [] h = refl
 none-taken room x (b ∷ l) h = rw (lt-leb 1024 room h)

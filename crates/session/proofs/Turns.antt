@@ -9,12 +9,12 @@ use Rattle.text.specs.Text.{placeOf}
 use Rattle.printing.specs.Writing.{hasRoom, Wrote}
 use Rattle.progress.specs.Statement.{State, lineRead}
 use Rattle.progress.specs.Progressing.{Reads}
-use Rattle.session.specs.Feeding.{Reading, afterByte, byteText, after, printed}
+use Rattle.session.specs.Feeding.{SoFar, afterByte, byteText, after, printed}
 use Rattle.session.specs.Sessions.{lineBytes, Keeps, TakesLine}
 use Rattle.session.proofs.Streams.{cut-text, cut-state, newline-state, newline-text}
 use Rattle.session.proofs.Taking.{place-within, bytes-all, bytes-place, newline-last, front-text, front-state}
 
-abbrev holding : List ℕ → State → Reading
+abbrev holding : List ℕ → State → SoFar
 holding l s = record { line = l; state = s }
 
 -- The bytes before the newline.
@@ -33,16 +33,16 @@ all-held line input later out held more e i s p q l k =
     let none = front-text (holding (take held line) s) input in
     record {
       takes = q ∙ sym (bytes-all input (sym p ∙ q));
-      reading = sym (front-held line input later held more e s p l k);
+      stands = sym (front-held line input later held more e s p l k);
       text = rw (p, none) (record { bytes = refl; end = omega arith });
     }
 
 -- The newline: the line is read.
-pub after-newline : (x : Reading) (front : List ℕ) → after x (front ++ 10 ∷ []) ≡ afterByte (after x front) 10
+pub after-newline : (x : SoFar) (front : List ℕ) → after x (front ++ 10 ∷ []) ≡ afterByte (after x front) 10
 unfolding after
 after-newline x front = cut-state x front (10 ∷ [])
 
-pub printed-newline : (x : Reading) (front : List ℕ) → printed x (front ++ 10 ∷ []) ≡ printed x front ++ byteText (after x front) 10
+pub printed-newline : (x : SoFar) (front : List ℕ) → printed x (front ++ 10 ∷ []) ≡ printed x front ++ byteText (after x front) 10
 unfolding printed
 printed-newline x front = cut-text x front (10 ∷ []) ∙ rw append-nil
 
@@ -61,6 +61,6 @@ line-ended line input later out outLater held more e i j s t p q l k room w =
     = rw (whole, printed-newline x (take e input), none, front) (newline-text y 10 refl) in
     record {
       takes = ap (λ (n : ℕ). n + 1) p ∙ sym (bytes-place input short);
-      reading = sym (rw (whole, after-newline x (take e input), front, w .state, room) (newline-state y 10 refl));
+      stands = sym (rw (whole, after-newline x (take e input), front, w .state, room) (newline-state y 10 refl));
       text = rw text (record { bytes = rw room at (w .bytes); end = rw room at (w .end) });
     }

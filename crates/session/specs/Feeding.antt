@@ -13,38 +13,38 @@ abbrev pub keptBytes : ℕ
 keptBytes = 51
 
 -- What has been read, and the line that isn't complete yet.
-pub record Reading : Type 0 where
+pub record SoFar : Type 0 where
   pub line : List ℕ
   pub state : State
 
-abbrev pub begin : Reading
-begin = record { line = []; state = start }
+abbrev pub nothingRead : SoFar
+nothingRead = record { line = []; state = start }
 
 -- After one byte more, and what it prints.
-unfoldable pub afterByte : Reading → ℕ → Reading
+unfoldable pub afterByte : SoFar → ℕ → SoFar
 afterByte x b =
     cond (eqb b 10) (record { line = []; state = lineRead (x .line) (x .state) .state })
     (record { line = take keptBytes (x .line ++ b ∷ []); state = x .state })
 
-unfoldable pub byteText : Reading → ℕ → List ℕ
+unfoldable pub byteText : SoFar → ℕ → List ℕ
 byteText x b = cond (eqb b 10) (lineRead (x .line) (x .state) .text) []
 
-unfoldable pub after : Reading → List ℕ → Reading
+unfoldable pub after : SoFar → List ℕ → SoFar
 after x [] = x
 after x (b ∷ bs) = after (afterByte x b) bs
 
-unfoldable pub printed : Reading → List ℕ → List ℕ
+unfoldable pub printed : SoFar → List ℕ → List ℕ
 printed x [] = []
 printed x (b ∷ bs) = byteText x b ++ printed (afterByte x b) bs
 
 -- What the end of the input prints.
-unfoldable pub ending : Reading → List ℕ
+unfoldable pub ending : SoFar → List ℕ
 ending x =
     cond (eqb (length (x .line)) 0) (atEnd (x .state))
     (lineRead (x .line) (x .state) .text ++ atEnd (lineRead (x .line) (x .state) .state))
 
 -- How many bytes are taken where a buffer for the texts has so much room: each as long as any one text still fits.
-unfoldable pub takenOf : ℕ → Reading → List ℕ → ℕ
+unfoldable pub takenOf : ℕ → SoFar → List ℕ → ℕ
 takenOf room x [] = zero
 takenOf room x (b ∷ bs) = cond (leb textRoom room) (suc (takenOf (room - length (byteText x b)) (afterByte x b) bs)) zero
 
@@ -53,14 +53,14 @@ unfoldable pub joined : List (List ℕ) → List ℕ
 joined [] = []
 joined (p ∷ ps) = p ++ joined ps
 
-unfoldable pub piecesText : Reading → List (List ℕ) → List ℕ
+unfoldable pub piecesText : SoFar → List (List ℕ) → List ℕ
 piecesText x [] = ending x
 piecesText x (p ∷ ps) = printed x p ++ piecesText (after x p) ps
 
 -- Bytes in, text out: what is printed while they come and at their end is what `statement` prints for them, and where they are cut makes no
--- difference. By the contracts of the session, feeding it the pieces from the start and finishing writes `piecesText begin` of them.
+-- difference. By the contracts of the session, feeding it the pieces from the start and finishing writes `piecesText nothingRead` of them.
 pub record Streams : Type 0 where
-  pub whole : (bytes : List ℕ) → printed begin bytes ++ ending (after begin bytes) ≡ statementOf bytes
-  pub cut-text : (x : Reading) (bytes more : List ℕ) → printed x (bytes ++ more) ≡ printed x bytes ++ printed (after x bytes) more
-  pub cut-state : (x : Reading) (bytes more : List ℕ) → after x (bytes ++ more) ≡ after (after x bytes) more
-  pub pieces : (ps : List (List ℕ)) → piecesText begin ps ≡ statementOf (joined ps)
+  pub whole : (bytes : List ℕ) → printed nothingRead bytes ++ ending (after nothingRead bytes) ≡ statementOf bytes
+  pub cut-text : (x : SoFar) (bytes more : List ℕ) → printed x (bytes ++ more) ≡ printed x bytes ++ printed (after x bytes) more
+  pub cut-state : (x : SoFar) (bytes more : List ℕ) → after x (bytes ++ more) ≡ after (after x bytes) more
+  pub pieces : (ps : List (List ℕ)) → piecesText nothingRead ps ≡ statementOf (joined ps)

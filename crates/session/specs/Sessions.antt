@@ -10,21 +10,21 @@ use Rattle.printing.specs.Writing.{textRoom, Wrote}
 use Rattle.progress.specs.Statement.{State}
 use Rattle.progress.specs.Progressing.{stateOf}
 use Rattle.session.specs.declared.Session.{Session}
-use Rattle.session.specs.Feeding.{keptBytes, Reading, begin, after, printed, ending, takenOf}
+use Rattle.session.specs.Feeding.{keptBytes, SoFar, nothingRead, after, printed, ending, takenOf}
 
 -- The bytes of the line that isn't complete yet stand at the front of their buffer.
-abbrev pub readingOf : Session → List ℕ → List ℕ → List ℕ → Reading
-readingOf x line delivered received = record { line = take (x .held) line; state = stateOf (x .progress) delivered received }
+abbrev pub soFarOf : Session → List ℕ → List ℕ → List ℕ → SoFar
+soFarOf x line delivered received = record { line = take (x .held) line; state = stateOf (x .progress) delivered received }
 
 -- Whatever the buffers hold, nothing has been read.
 abbrev pub Begins : Session → Type 0
-Begins x = (line d e : List ℕ) → readingOf x line d e ≡ begin
+Begins x = (line d e : List ℕ) → soFarOf x line d e ≡ nothingRead
 
 -- Feeding a session: how many bytes of the input it takes, what it stands for then, and what it writes from the front of the buffer for texts.
 pub record Feeds
-    (before : Reading) (input : List ℕ) (out : List ℕ) (taken : ℕ) (later : Reading) (written : ℕ) (outLater : List ℕ) : Type 0 where
+    (before : SoFar) (input : List ℕ) (out : List ℕ) (taken : ℕ) (later : SoFar) (written : ℕ) (outLater : List ℕ) : Type 0 where
   pub takes : taken ≡ takenOf (length out) before input
-  pub reading : later ≡ after before (take taken input)
+  pub stands : later ≡ after before (take taken input)
   pub text : Wrote out 0 (printed before (take taken input)) outLater written
   pub inside : taken ≤ length input
   pub fits : written ≤ length out
@@ -33,7 +33,7 @@ pub record Feeds
 abbrev pub endRoom : ℕ
 endRoom = 2048
 
-pub record Finishes (before : Reading) (out : List ℕ) (written : ℕ) (outLater : List ℕ) : Type 0 where
+pub record Finishes (before : SoFar) (out : List ℕ) (written : ℕ) (outLater : List ℕ) : Type 0 where
   pub bytes : outLater ≡ cond (leb endRoom (length out)) (sets out 0 (ending before)) out
   pub end : written ≡ cond (leb endRoom (length out)) (length (ending before)) 0
   pub fits : written ≤ length out
@@ -50,21 +50,21 @@ lineBytes (b ∷ bs) = suc (cond (eqb b 10) zero (lineBytes bs))
 
 -- They are taken, and a text is written from place i on.
 pub record TakesLine
-    (before : Reading) (input : List ℕ) (out : List ℕ) (i : ℕ) (taken : ℕ) (later : Reading) (j : ℕ) (outLater : List ℕ) : Type 0 where
+    (before : SoFar) (input : List ℕ) (out : List ℕ) (i : ℕ) (taken : ℕ) (later : SoFar) (j : ℕ) (outLater : List ℕ) : Type 0 where
   pub takes : taken ≡ lineBytes input
-  pub reading : later ≡ after before (take taken input)
+  pub stands : later ≡ after before (take taken input)
   pub text : Wrote out i (printed before (take taken input)) outLater j
 
 -- The bytes that are held, and the state.
-abbrev pub held : List ℕ → State → Reading
+abbrev pub held : List ℕ → State → SoFar
 held l s = record { line = l; state = s }
 
 -- Some bytes are taken, and the rest as if they came after them; a text is written from place i on.
 pub record Takes
-    (before : Reading) (input : List ℕ) (out : List ℕ) (i : ℕ) (taken : ℕ) (later : Reading) (j : ℕ) (outLater : List ℕ) : Type 0 where
+    (before : SoFar) (input : List ℕ) (out : List ℕ) (i : ℕ) (taken : ℕ) (later : SoFar) (j : ℕ) (outLater : List ℕ) : Type 0 where
   pub some : 0 < length input → 0 < taken
   pub inside : taken ≤ length input
-  pub reading : later ≡ after before (take taken input)
+  pub stands : later ≡ after before (take taken input)
   pub text : Wrote out i (printed before (take taken input)) outLater j
   pub short : length (printed before (take taken input)) ≤ textRoom
   pub rest : (room : ℕ) → textRoom ≤ room

@@ -6,9 +6,9 @@ ghost use Prim.Native.Nat.{_≤_, min};
 ghost use lib.Dec.{ltb};
 ghost use lib.ListN.{length, take};
 ghost use Rattle.printing.specs.Writing.{hasRoom};
-ghost use Rattle.progress.specs.Statement.{runDue, lineRead};
+ghost use Rattle.progress.specs.Statement.{runExpected, lineRead};
 ghost use Rattle.progress.specs.Progressing.{stateOf, Reads};
-ghost use Rattle.session.specs.Sessions.{readingOf, Begins, Feeds, Finishes, Keeps, TakesLine, Takes, held};
+ghost use Rattle.session.specs.Sessions.{soFarOf, Begins, Feeds, Finishes, Keeps, TakesLine, Takes, held};
 use progress::Ended;
 use progress::Progress;
 
@@ -86,7 +86,7 @@ fn take_line(
     at: usize,
 ) -> Fed
     requires { ⌜ hasRoom (now out) at ≡ true ⌝ }
-    ensures { λ r. ⌜ TakesLine (readingOf session (now (line .entry)) (now (delivered .entry)) (now (received .entry))) (now (input .entry)) (now (out .entry)) at (r .taken) (readingOf (r .session) (now (line .exit)) (now (delivered .exit)) (now (received .exit))) (r .written) (now (out .exit)) ⌝ }
+    ensures { λ r. ⌜ TakesLine (soFarOf session (now (line .entry)) (now (delivered .entry)) (now (received .entry))) (now (input .entry)) (now (out .entry)) at (r .taken) (soFarOf (r .session) (now (line .exit)) (now (delivered .exit)) (now (received .exit))) (r .written) (now (out .exit)) ⌝ }
 {
     let progress = session.progress;
     let end = text::place_of(NEWLINE, input);
@@ -121,7 +121,7 @@ fn take_runs(
     at: usize,
 ) -> Fed
     requires { ⌜ hasRoom (now out) at ≡ true ⌝ }
-    ensures { λ r. ⌜ Takes (held [] (stateOf progress (now (delivered .entry)) (now (received .entry)))) (now (input .entry)) (now (out .entry)) at (r .taken) (readingOf (r .session) (now (line .exit)) (now (delivered .exit)) (now (received .exit))) (r .written) (now (out .exit)) ⌝ }
+    ensures { λ r. ⌜ Takes (held [] (stateOf progress (now (delivered .entry)) (now (received .entry)))) (now (input .entry)) (now (out .entry)) at (r .taken) (soFarOf (r .session) (now (line .exit)) (now (delivered .exit)) (now (received .exit))) (r .written) (now (out .exit)) ⌝ }
 {
     let ran = progress.read_runs(input, delivered, received);
     let after = ran.progress;
@@ -150,7 +150,7 @@ fn take_lines(
     at: usize,
 ) -> Fed
     requires { ⌜ hasRoom (now out) at ≡ true ⌝ }
-    ensures { λ r. ⌜ Takes (readingOf session (now (line .entry)) (now (delivered .entry)) (now (received .entry))) (now (input .entry)) (now (out .entry)) at (r .taken) (readingOf (r .session) (now (line .exit)) (now (delivered .exit)) (now (received .exit))) (r .written) (now (out .exit)) ⌝ }
+    ensures { λ r. ⌜ Takes (soFarOf session (now (line .entry)) (now (delivered .entry)) (now (received .entry))) (now (input .entry)) (now (out .entry)) at (r .taken) (soFarOf (r .session) (now (line .exit)) (now (delivered .exit)) (now (received .exit))) (r .written) (now (out .exit)) ⌝ }
 {
     if session.held == 0 {
         let progress = session.progress;
@@ -170,7 +170,7 @@ impl Session {
 
     // Whether a fault has stopped it.
     pub fn is_stopped(self) -> bool
-        ensures { λ r. ⌜ r ≡ ltb runDue (self .progress .due) ⌝ }
+        ensures { λ r. ⌜ r ≡ ltb runExpected (self .progress .expected) ⌝ }
     {
         let progress = self.progress;
         progress.is_stopped()
@@ -185,7 +185,7 @@ impl Session {
         input: &[u8],
         out: &mut [u8],
     ) -> Fed
-        ensures { λ r. ⌜ Feeds (readingOf self (now (line .entry)) (now (delivered .entry)) (now (received .entry))) (now (input .entry)) (now (out .entry)) (r .taken) (readingOf (r .session) (now (line .exit)) (now (delivered .exit)) (now (received .exit))) (r .written) (now (out .exit)) ⌝ }
+        ensures { λ r. ⌜ Feeds (soFarOf self (now (line .entry)) (now (delivered .entry)) (now (received .entry))) (now (input .entry)) (now (out .entry)) (r .taken) (soFarOf (r .session) (now (line .exit)) (now (delivered .exit)) (now (received .exit))) (r .written) (now (out .exit)) ⌝ }
     {
         let mut session = self;
         let mut taken = 0;
@@ -226,7 +226,7 @@ impl Session {
         received: &mut [u32; 2976],
         out: &mut [u8],
     ) -> usize
-        ensures { λ r. ⌜ Finishes (readingOf self (now (line .entry)) (now (delivered .entry)) (now (received .entry))) (now (out .entry)) r (now (out .exit)) ⌝ }
+        ensures { λ r. ⌜ Finishes (soFarOf self (now (line .entry)) (now (delivered .entry)) (now (received .entry))) (now (out .entry)) r (now (out .exit)) ⌝ }
     {
         if out.len() < END_ROOM {
             return 0;

@@ -4,7 +4,7 @@ use mathlib.Core.List.{List}
 use Prim.Native.Nat.{ℕ, _+_, _-_, _≤_, _<_}
 use native.Mathlib.Omega.{arith}
 use lib.ListN.{length, take, drop, length-take, length-drop}
-use Rattle.session.specs.Feeding.{Reading, takenOf}
+use Rattle.session.specs.Feeding.{SoFar, takenOf}
 use Rattle.session.proofs.Streams.{taken-some}
 
 abbrev rest : List ℕ → ℕ → List ℕ
@@ -18,7 +18,7 @@ pub rest-within : (input : List ℕ) (taken t : ℕ) → taken < length input �
 rest-within input taken t h k = omega (arith, rest-long input taken)
 
 -- and some is, where a text fits.
-pub rest-some : (input out : List ℕ) (taken t : ℕ) (x : Reading) → taken < length input → 1024 ≤ length out
+pub rest-some : (input out : List ℕ) (taken t : ℕ) (x : SoFar) → taken < length input → 1024 ≤ length out
     → t ≡ takenOf (length out) x (rest input taken) → taken < taken + t
 rest-some input out taken t x h room e =
     omega (arith, e, taken-some (length out) x (rest input taken) room (omega (arith, rest-long input taken)))

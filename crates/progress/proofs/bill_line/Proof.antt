@@ -2,7 +2,7 @@
 use mathlib.Core.Path.{_∙_, ap, sym}
 use mathlib.Core.List.{[]}
 use Rattle.grammar.specs.Grammar.{billLine}
-use Rattle.progress.specs.Statement.{printing}
+use Rattle.progress.specs.Statement.{outcome}
 use Rattle.progress.specs.Progressing.{stateOf}
 use Rattle.progress.proofs.Lines.{quiet, ends-by, bill-no, bill-yes}
 use borrow.Author.Needs.{needs}
@@ -42,7 +42,7 @@ returns-2 : tie.Need-returns-2
 returns-2 c = λ d e.
     let st = c .before .before .before .before .before .before in
     let s = stateOf (st .args .progress) d e in
-    quiet (st .args .out .now) (st .args .at) _ _ (bill-yes (billLine (st .args .line .now)) _ (c .before .before .before .bill-line .ensures) s (c .before .if1 .left) ∙ ap (printing []) (sym (c .begin-month .ensures d e)))
+    quiet (st .args .out .now) (st .args .at) _ _ (bill-yes (billLine (st .args .line .now)) _ (c .before .before .before .bill-line .ensures) s (c .before .if1 .left) ∙ ap (outcome []) (sym (c .begin-month .ensures d e)))
 
 pub bill-line-spec : {M : Type 1} → statement M
 bill-line-spec =

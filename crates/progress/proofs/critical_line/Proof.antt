@@ -2,7 +2,7 @@
 use mathlib.Core.Path.{_∙_, ap, sym}
 use mathlib.Core.List.{[]}
 use Rattle.grammar.specs.Grammar.{criticalLine}
-use Rattle.progress.specs.Statement.{printing}
+use Rattle.progress.specs.Statement.{outcome}
 use Rattle.progress.specs.Progressing.{stateOf}
 use Rattle.progress.proofs.Lines.{quiet, ends-by, critical-no, critical-yes}
 use borrow.Author.Needs.{needs}

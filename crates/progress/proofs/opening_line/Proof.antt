@@ -3,7 +3,7 @@ use mathlib.Core.Path.{_∙_, ap, sym}
 use mathlib.Core.List.{List, []}
 use Prim.Native.Nat.{ℕ, _+_}
 use Rattle.grammar.specs.Grammar.{openingLine}
-use Rattle.progress.specs.Statement.{state, printing, opened}
+use Rattle.progress.specs.Statement.{state, outcome, opened}
 use Rattle.progress.specs.Progressing.{stateOf}
 use Rattle.progress.proofs.Lines.{quiet, ends-by, opening-no, opening-more, opening-last, values-are}
 use borrow.Author.Needs.{needs}
@@ -32,7 +32,7 @@ same-length c = search needs
 returns : tie.Need-returns
 returns c = λ d e.
     let st = c .before .before .before .before .before .before .before .before .before in
-    let v = openingLine (st .args .progress .due) (st .args .line .now) in
+    let v = openingLine (st .args .progress .expected) (st .args .line .now) in
     ends-by _ _ _ _ _ _ _ (opening-no v _ (c .before .before .before .before .before .before .opening-line .ensures) (stateOf (st .args .progress) d e) (c .before .before .before .before .if1 .taken)) (c .before .before .stop-at .ensures d e)
 
 -- src/lib.rt:145:9
@@ -51,10 +51,10 @@ returns-2 c = λ d e.
     let l = st .args .line .now in
     let read = c .before .before .before .before .before .opening-line .ensures in
     let some = c .before .before .before .if1 .left in
-    let values = c .before .with-values .ensures ∙ values-are (s .values) (s .due) l _ read some in
+    let values = c .before .with-values .ensures ∙ values-are (s .values) (s .expected) l _ read some in
     quiet (st .args .out .now) (st .args .at) _ _
-    (opening-more (openingLine (s .due) l) _ read s some (c .if2 .taken)
-    ∙ ap (λ (xs : List ℕ). printing [] (state (s .number) (s .due + 1) xs (s .account) (s .entered))) (sym values))
+    (opening-more (openingLine (s .expected) l) _ read s some (c .if2 .taken)
+    ∙ ap (λ (xs : List ℕ). outcome [] (state (s .lines) (s .expected + 1) xs (s .account) (s .entered))) (sym values))
 
 -- src/lib.rt:152:5
 open-requires : tie.Need-open-requires
@@ -72,9 +72,9 @@ returns-3 c = λ d e.
     let l = st .args .line .now in
     let read = c .before .before .before .before .before .before .before .before .before .opening-line .ensures in
     let some = c .before .before .before .before .before .before .before .if1 .left in
-    let values = c .before .before .before .before .before .with-values .ensures ∙ values-are (s .values) (s .due) l _ read some in
+    let values = c .before .before .before .before .before .with-values .ensures ∙ values-are (s .values) (s .expected) l _ read some in
     ends-by _ _ _ _ _ _ _
-    (opening-last (openingLine (s .due) l) _ read s some (c .before .before .before .before .if2 .left) ∙ ap (λ (xs : List ℕ). opened xs s) (sym values))
+    (opening-last (openingLine (s .expected) l) _ read s some (c .before .before .before .before .if2 .left) ∙ ap (λ (xs : List ℕ). opened xs s) (sym values))
     (c .before .before .«open» .ensures d e)
 
 pub opening-line-spec : {M : Type 1} → statement M

@@ -1,6 +1,6 @@
--- `progress::stop_at` writes the number of the line, and no line is due any more.
+-- `progress::stop_at` writes the number of the line, and no line is expected any more.
 use mathlib.Core.Path.{refl}
-use Rattle.progress.specs.Statement.{stop}
+use Rattle.progress.specs.Statement.{fault}
 use Rattle.progress.proofs.Lines.{puts}
 use borrow.Author.Needs.{needs}
 use Rattle.progress.proofs.stop_at.Statement.{statement}
@@ -19,7 +19,7 @@ same-length c = search needs
 
 -- src/lib.rt:66:1
 returns : tie.Need-returns
-unfolding stop
+unfolding fault
 returns c = λ d e. record { state = refl; text = puts _ _ _ _ _ (c .before .before .before .before .before .pre) (c .before .before .put-line .ensures) }
 
 pub stop-at-spec : {M : Type 1} → statement M

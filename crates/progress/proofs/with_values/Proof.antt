@@ -40,7 +40,7 @@ array-write-next-5 c = search needs
 -- src/lib.rt:93:9
 returns-2 : tie.Need-returns-2
 unfolding valuesWith
-returns-2 c = simp (ne-eqb _ _ (c .before .if1 .left), le-leb (c .before .before .args .due) 6 (omega arith))
+returns-2 c = simp (ne-eqb _ _ (c .before .if1 .left), le-leb (c .before .before .args .expected) 6 (omega arith))
 
 -- src/lib.rt:95:10
 add-next : tie.Need-add-next
@@ -57,7 +57,7 @@ array-write-next-6 c = search needs
 -- src/lib.rt:79:1
 returns-3 : tie.Need-returns-3
 unfolding valuesWith
-returns-3 c = simp (ne-eqb _ _ (c .before .if1 .left), lt-leb (c .before .before .args .due) 6 (omega arith))
+returns-3 c = simp (ne-eqb _ _ (c .before .if1 .left), lt-leb (c .before .before .args .expected) 6 (omega arith))
 
 pub with-values-spec : {M : Type 1} → statement M
 with-values-spec =

@@ -1,4 +1,4 @@
--- `progress::Progress::finish` asks what is due in the order of the definition.
+-- `progress::Progress::finish` asks what is expected in the order of the definition.
 use mathlib.Core.Path.{sym, _∙_, ap}
 use Rattle.printing.specs.Printing.{lineText}
 use Rattle.progress.specs.Statement.{atEnd}

@@ -9,7 +9,7 @@ use Rattle.progress.proofs.Progress.read_line.Reads as reads
 use Rattle.progress.proofs.Progress.read_line.Lts as lts
 use Rattle.printing.proofs.has_room.Reads as has-room-reads
 use Rattle.progress.proofs.count.Reads as count-reads
-use Rattle.progress.proofs.due_line.Reads as due-line-reads
+use Rattle.progress.proofs.expected_line.Reads as expected-line-reads
 
 -- src/lib.rt:372:12
 has-room-requires : tie.Need-has-room-requires
@@ -20,8 +20,8 @@ count-requires : tie.Need-count-requires
 count-requires c κs = search needs
 
 -- src/lib.rt:373:13
-due-line-requires : tie.Need-due-line-requires
-due-line-requires c κs = sym (c .before .before .before .before .before .has-room .ensures) ∙ c .before .before .before .before .if1 .taken
+expected-line-requires : tie.Need-expected-line-requires
+expected-line-requires c κs = sym (c .before .before .before .before .before .has-room .ensures) ∙ c .before .before .before .before .if1 .taken
 
 -- src/lib.rt:373:13
 same-length : tie.Need-same-length
@@ -35,7 +35,7 @@ returns c =
     let e = st .args .received .now in
     let s = stateOf (st .args .self) d e in
     reads-some (st .args .out .now) (st .args .at) s _ _ _ _ (sym (c .before .before .before .before .before .before .before .before .has-room .ensures) ∙ c .before .before .before .before .before .before .before .if1 .taken)
-    (read-by (st .args .out .now) (st .args .at) _ _ (st .args .line .now) s _ _ (c .before .before .before .before .before .before .count .ensures d e) (c .before .before .due-line .ensures))
+    (read-by (st .args .out .now) (st .args .at) _ _ (st .args .line .now) s _ _ (c .before .before .before .before .before .before .count .ensures d e) (c .before .before .expected-line .ensures))
 
 -- src/lib.rt:362:5
 same-length-2 : tie.Need-same-length-2
@@ -51,7 +51,7 @@ read-line-spec =
     (tie.spec
     has-room-requires
     count-requires
-    due-line-requires
+    expected-line-requires
     same-length
     returns
     same-length-2

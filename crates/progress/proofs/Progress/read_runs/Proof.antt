@@ -5,8 +5,8 @@ use native.Mathlib.Omega.{arith}
 use borrow.Author.Needs.{needs}
 use lib.ListN.{length, take, drop, length-take, length-drop}
 use Rattle.progress.specs.Progressing.{stateOf, ranTo}
-use Rattle.progress.proofs.RunLines.{Running, running-start, running-none, running-all, running-more, loop-start, none-due, ran-to}
-use Rattle.progress.proofs.RunLines.{turn-none, turn-due, turn-bytes, turn-within, turn-fits, turn-state}
+use Rattle.progress.proofs.RunLines.{Running, running-start, running-none, running-all, running-more, loop-start, none-expected, ran-to}
+use Rattle.progress.proofs.RunLines.{turn-none, turn-expected, turn-bytes, turn-within, turn-fits, turn-state}
 use Rattle.progress.proofs.Progress.read_runs.Statement.{statement}
 use Rattle.progress.proofs.Progress.read_runs.Tie as tie
 
@@ -21,7 +21,7 @@ abbrev μ-loop : tie.MeasureT-loop
 returns : tie.Need-returns Inv-loop μ-loop
 returns c =
     let args = c .before .before .before .args in
-    none-due (stateOf (args .self) (args .delivered .now) (args .received .now)) (args .input .now) (c .if1 .taken)
+    none-expected (stateOf (args .self) (args .delivered .now) (args .received .now)) (args .input .now) (c .if1 .taken)
 
 readings-requires : tie.Need-readings-requires Inv-loop μ-loop
 readings-requires c κs = search needs
@@ -161,7 +161,7 @@ loop-again c =
     let lp = run .before .before .before .loop in
     let args = run .before .before .before .before .before .before .before .before .before .before .before .before .before .args in
     let input = args .input .now in
-    let due = run .before .before .before .before .before .before .before .before .before .before .if1 .left in
+    let expected = run .before .before .before .before .before .before .before .before .before .before .if1 .left in
     let x = args .self in
     let rest = take (length input - lp .taken) (drop (lp .taken) input) in
     let next = run .next-run in
@@ -177,9 +177,9 @@ loop-again c =
       omega (arith, made .kept .0, lp .inv .1),
       running-more (stateOf x (args .delivered .now) (args .received .now)) s input (lp .taken) (lp .inv .2)
           (ranTo x (number .result) (take (n + next .result .count) (made .last .0)) (take (n + next .result .count) (given .last .0)))
-          (next .result .bytes) (turn-due x (lp .number) n d e rest due (lp .inv .1) (lp .inv .0) (next .result) (next .ensures) some)
+          (next .result .bytes) (turn-expected x (lp .number) n d e rest expected (lp .inv .1) (lp .inv .0) (next .result) (next .ensures) some)
           (turn-bytes n rest (next .result) (next .ensures) some)
-          (turn-state x (lp .number) n d e rest due (lp .inv .1) (lp .inv .0) (next .result) (next .ensures) some
+          (turn-state x (lp .number) n d e rest expected (lp .inv .1) (lp .inv .0) (next .result) (next .ensures) some
           (made .last .0) (given .last .0) (number .result) (number .ensures) (made .ensures) (given .ensures)),
     )
 

@@ -3,14 +3,14 @@ use Prim.Native.Nat.{_-_}
 use native.Mathlib.Omega.{arith}
 use borrow.Author.Needs.{needs}
 use lib.ListN.{length}
-use Rattle.session.specs.Sessions.{readingOf}
+use Rattle.session.specs.Sessions.{soFarOf}
 use Rattle.session.proofs.Going.{Going, going-start, going-more, going-none, going-all, more-taken, same-long, room-yes, room-none}
 use Rattle.session.proofs.Session.feed.Statement.{statement}
 use Rattle.session.proofs.Session.feed.Tie as tie
 
 abbrev Inv-loop : tie.InvT-loop
 Inv-loop line₀ delivered₀ received₀ input out₀ session₀ taken₀ written₀ line delivered received out session taken written =
-    Going (readingOf session₀ line₀ delivered₀ received₀) input out₀ taken (readingOf session line delivered received) written out
+    Going (soFarOf session₀ line₀ delivered₀ received₀) input out₀ taken (soFarOf session line delivered received) written out
 
 abbrev μ-loop : tie.MeasureT-loop
 μ-loop line₀ delivered₀ received₀ input out₀ session₀ taken₀ written₀ line delivered received out session taken written =
@@ -66,7 +66,7 @@ loop-again c =
     let else = made .before .before .before .before .before .before in
     let inside = else .before .before .before in
     let lines = made .take-lines in
-    going-more {later = readingOf (lines .result .session) (lines .last .1 .0) (lines .last .1 .1 .0) (lines .last .1 .1 .1 .0)}
+    going-more {later = soFarOf (lines .result .session) (lines .last .1 .0) (lines .last .1 .1 .0) (lines .last .1 .1 .1 .0)}
     (inside .before .loop .inv) (inside .loop-test .taken)
     (room-yes _ _ _ (else .before .has-room .ensures) (else .if1 .left)) (lines .ensures)
 

@@ -1,11 +1,11 @@
--- `progress::due_line` asks what is due in the order of the definition.
+-- `progress::expected_line` asks what is expected in the order of the definition.
 use Rattle.progress.specs.Progressing.{stateOf}
-use Rattle.progress.proofs.Lines.{quiet, ends-by, due-opening, due-bill, due-critical, due-later, due-none}
+use Rattle.progress.proofs.Lines.{quiet, ends-by, expected-opening, expected-bill, expected-critical, expected-later, expected-none}
 use borrow.Author.Needs.{needs}
-use Rattle.progress.proofs.due_line.Statement.{statement}
-use Rattle.progress.proofs.due_line.Tie as tie
-use Rattle.progress.proofs.due_line.Reads as reads
-use Rattle.progress.proofs.due_line.Lts as lts
+use Rattle.progress.proofs.expected_line.Statement.{statement}
+use Rattle.progress.proofs.expected_line.Tie as tie
+use Rattle.progress.proofs.expected_line.Reads as reads
+use Rattle.progress.proofs.expected_line.Lts as lts
 use Rattle.progress.proofs.bill_line.Reads as bill-line-reads
 use Rattle.progress.proofs.critical_line.Reads as critical-line-reads
 use Rattle.progress.proofs.later_line.Reads as later-line-reads
@@ -27,7 +27,7 @@ returns c =
     let e = st .args .received .now in
     let l = st .args .line .now in
     let s = stateOf (st .args .progress) d e in
-    ends-by _ _ _ _ _ _ _ (due-opening l s (c .before .before .before .before .if1 .taken)) (c .before .before .opening-line .ensures d e)
+    ends-by _ _ _ _ _ _ _ (expected-opening l s (c .before .before .before .before .if1 .taken)) (c .before .before .opening-line .ensures d e)
 
 -- src/lib.rt:326:9
 bill-line-requires : tie.Need-bill-line-requires
@@ -45,7 +45,7 @@ returns-2 c =
     let e = st .args .received .now in
     let l = st .args .line .now in
     let s = stateOf (st .args .progress) d e in
-    ends-by _ _ _ _ _ _ _ (due-bill l s (c .before .before .before .before .before .if1 .left) (c .before .before .before .before .if2 .taken)) (c .before .before .bill-line .ensures d e)
+    ends-by _ _ _ _ _ _ _ (expected-bill l s (c .before .before .before .before .before .if1 .left) (c .before .before .before .before .if2 .taken)) (c .before .before .bill-line .ensures d e)
 
 -- src/lib.rt:329:9
 critical-line-requires : tie.Need-critical-line-requires
@@ -63,7 +63,7 @@ returns-3 c =
     let e = st .args .received .now in
     let l = st .args .line .now in
     let s = stateOf (st .args .progress) d e in
-    ends-by _ _ _ _ _ _ _ (due-critical l s (c .before .before .before .before .before .before .if1 .left) (c .before .before .before .before .before .if2 .left) (c .before .before .before .before .if3 .taken)) (c .before .before .critical-line .ensures d e)
+    ends-by _ _ _ _ _ _ _ (expected-critical l s (c .before .before .before .before .before .before .if1 .left) (c .before .before .before .before .before .if2 .left) (c .before .before .before .before .if3 .taken)) (c .before .before .critical-line .ensures d e)
 
 -- src/lib.rt:332:9
 later-line-requires : tie.Need-later-line-requires
@@ -81,7 +81,7 @@ returns-4 c =
     let e = st .args .received .now in
     let l = st .args .line .now in
     let s = stateOf (st .args .progress) d e in
-    ends-by _ _ _ _ _ _ _ (due-later l s (c .before .before .before .before .before .before .before .before .before .if1 .left) (c .before .before .before .before .before .before .before .before .if2 .left) (c .before .before .before .before .before .before .before .if3 .left) (c .before .before .before .before .before .before .if4 .taken)) (c .before .before .later-line .ensures)
+    ends-by _ _ _ _ _ _ _ (expected-later l s (c .before .before .before .before .before .before .before .before .before .if1 .left) (c .before .before .before .before .before .before .before .before .if2 .left) (c .before .before .before .before .before .before .before .if3 .left) (c .before .before .before .before .before .before .if4 .taken)) (c .before .before .later-line .ensures)
 
 -- src/lib.rt:310:1
 returns-5 : tie.Need-returns-5
@@ -91,10 +91,10 @@ returns-5 c =
     let e = st .args .received .now in
     let l = st .args .line .now in
     let s = stateOf (st .args .progress) d e in
-    quiet (st .args .out .now) (st .args .at) _ _ (due-none l s (c .before .before .before .if1 .left) (c .before .before .if2 .left) (c .before .if3 .left) (c .if4 .left))
+    quiet (st .args .out .now) (st .args .at) _ _ (expected-none l s (c .before .before .before .if1 .left) (c .before .before .if2 .left) (c .before .if3 .left) (c .if4 .left))
 
-pub due-line-spec : {M : Type 1} → statement M
-due-line-spec =
+pub expected-line-spec : {M : Type 1} → statement M
+expected-line-spec =
     tie.close
     (tie.spec
     opening-line-requires
