@@ -6,7 +6,7 @@ use Prim.Native.Nat.{ℕ, _-_}
 use borrow.Author.Tests.{eq-eqb, ne-eqb}
 use lib.ListN.{length, getD, take, drop}
 use Rattle.numerals.specs.Numerals.{valueOf, isNumber, isMonth, monthIn}
-use Rattle.numerals.specs.Reading.{monthFrom}
+use Rattle.numerals.specs.Joining.{monthFrom}
 use Rattle.numerals.proofs.Rest.{rest-is}
 
 module _ (l : List ℕ) where

@@ -13,7 +13,8 @@ use Rattle.calendar.proofs.Booleans.{and-both}
 use Rattle.text.specs.Text.{placeOf}
 use Rattle.numerals.specs.declared.Numbers.{Numbers}
 use Rattle.numerals.specs.Numerals.{valueOf, isNumber, numberIn, onFirst, partsOf, allNumbers, numbersIn}
-use Rattle.numerals.specs.Reading.{numbersAs, ledBy}
+use Rattle.numerals.specs.Reading.{numbersAs}
+use Rattle.numerals.specs.Joining.{ledBy}
 use Rattle.numerals.proofs.Rest.{rest-is}
 
 pub place-within : (b : ℕ) (l : List ℕ) → placeOf b l ≤ length l

@@ -1,2 +1,3 @@
+pub mod Joining
 pub mod Numerals
 pub mod Reading

@@ -1,23 +1,10 @@
--- How the numbers of a text are handed back, and what the private functions promise each other.
-use mathlib.Core.Bool.{cond, _&&_, _||_}
-use mathlib.Core.List.{List, [], _∷_}
-use Prim.Native.Nat.{ℕ, _+_}
-use lib.Dec.{eqb, leb}
+-- How the numbers of a text are handed back.
+use mathlib.Core.List.{List}
+use Prim.Native.Nat.{ℕ}
 use lib.ListN.{length, getD}
-use Rattle.calendar.specs.Calendar.{monthNumber}
 use Rattle.numerals.specs.declared.Numbers.{Numbers}
 
 -- At most four numbers, how many there are, and 0 in the places of the others.
 abbrev pub numbersAs : List ℕ → Numbers
 numbersAs xs =
     record { count = length xs; first = getD xs 0 0; second = getD xs 1 0; third = getD xs 2 0; fourth = getD xs 3 0 }
-
--- The number of a month from what was read of its year and its month of the year.
-unfoldable pub monthFrom : ℕ → ℕ → List ℕ
-monthFrom y k = cond (leb 2000 y && leb y 9999 && leb 1 k && leb k 12) (monthNumber y k ∷ []) []
-
--- A number and those after it; none where there is none before or after.
-unfoldable pub ledBy : Numbers → Numbers → Numbers
-ledBy a b =
-    cond (eqb (a .count) 0 || eqb (b .count) 0) (numbersAs [])
-    (record { count = b .count + 1; first = a .first; second = b .first; third = b .second; fourth = b .third })

@@ -3,7 +3,8 @@ ghost use mathlib.Core.Path.{_≡_};
 ghost use mathlib.Core.List.{[], _∷_};
 ghost use Prim.Native.Nat.{_+_, _<_, _^_};
 ghost use Rattle.numerals.specs.Numerals.{numberIn, monthIn, numbersIn};
-ghost use Rattle.numerals.specs.Reading.{numbersAs, monthFrom, ledBy};
+ghost use Rattle.numerals.specs.Reading.{numbersAs};
+ghost use Rattle.numerals.specs.Joining.{monthFrom, ledBy};
 
 // The first number of more than 32 bits.
 const LIMIT_32: u64 = 0x1_0000_0000;

@@ -22,7 +22,8 @@ use Rattle.printing.specs.Printing.{billText, openText, lineText}
 use Rattle.printing.specs.Writing.{hasRoom, Wrote, Put}
 use Rattle.progress.specs.Statement.{State, state, Outcome, outcome, nextNumber, fault, opened, openingRead, begun, billRead, withCritical, criticalRead}
 use Rattle.progress.specs.Statement.{placeOfLine, withRun, runRead, monthReply, monthEnd, runOrBillRead, counted, expectedRead, lineRead, atEnd}
-use Rattle.progress.specs.Progressing.{Ends, Reads, valuesWith}
+use Rattle.progress.specs.Progressing.{Reads}
+use Rattle.progress.specs.Ending.{Ends, valuesWith}
 use Rattle.grammar.proofs.Laws.{opening-count, prices-count}
 
 -- As many readings as there are.

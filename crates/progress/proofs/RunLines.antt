@@ -15,7 +15,8 @@ use Rattle.numerals.specs.Reading.{numbersAs}
 use Rattle.progress.specs.declared.Run.{Run}
 use Rattle.progress.specs.declared.Progress.{Progress}
 use Rattle.progress.specs.Statement.{State, state, Month, monthOf, Outcome, outcome, nextNumber, counted, withRun, lineRead}
-use Rattle.progress.specs.Progressing.{stateOf, lineAt, isRun, isRunExpected, runsBytes, runsState, RunsRead, runAt, ranTo}
+use Rattle.progress.specs.Progressing.{stateOf, lineAt, isRun, isRunExpected, runsBytes, runsState, RunsRead}
+use Rattle.progress.specs.Ending.{runAt, ranTo}
 use Rattle.progress.proofs.Lines.{least-taken, later-run, run-yes, expected-later}
 
 -- The first newline stands inside, or there is none.

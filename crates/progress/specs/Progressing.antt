@@ -1,18 +1,16 @@
 -- What the progress and the registers lent with it stand for, and what its functions promise.
 use mathlib.Core.Path.{_≡_}
 use mathlib.Core.Bool.{Bool, false, cond, _&&_}
-use mathlib.Core.List.{List, [], _∷_}
+use mathlib.Core.List.{List}
 use Prim.Native.Nat.{ℕ, zero, suc, _+_}
 use lib.Dec.{eqb, leb}
 use lib.ListN.{length, getD, take, drop}
 use lib.Seq.{sets}
 use Rattle.text.specs.Text.{placeOf}
-use Rattle.numerals.specs.declared.Numbers.{Numbers}
 use Rattle.grammar.specs.Grammar.{runLine}
-use Rattle.printing.specs.Writing.{hasRoom, Wrote}
+use Rattle.printing.specs.Writing.{hasRoom}
 use Rattle.progress.specs.declared.Progress.{Progress}
-use Rattle.progress.specs.declared.Run.{Run}
-use Rattle.progress.specs.Statement.{State, state, monthOf, Outcome, placeOfLine, isUnreadable, mostReadings, runExpected, lineRead}
+use Rattle.progress.specs.Statement.{State, state, monthOf, Outcome, isUnreadable, mostReadings, runExpected, lineRead}
 
 -- The readings of the month stand at the front of the two registers.
 abbrev pub stateOf : Progress → List ℕ → List ℕ → State
@@ -44,7 +42,8 @@ isRun l filled =
 unfoldable pub isRunExpected : List ℕ → State → Bool
 isRunExpected l s = eqb (s .expected) runExpected && isRun l (length (s .entered .delivered))
 
--- How many bytes the run lines at the front of an input have, and the state after them; n bounds how many lines they are.
+-- How many bytes the run lines at the front of an input have, and the state after them; n bounds how many lines they are. A month has up to
+-- 2,976 run lines, so for speed they are read by themselves; each still changes the state as `lineRead` says.
 unfoldable pub runsBytes : ℕ → List ℕ → State → ℕ
 runsBytes zero l s = zero
 runsBytes (suc n) l s =
@@ -58,40 +57,3 @@ runsState (suc n) l s = cond (isRunExpected l s) (runsState n (drop (placeOf 10 
 pub record RunsRead (before : State) (input : List ℕ) (taken : ℕ) (later : State) : Type 0 where
   pub takes : taken ≡ runsBytes (length input) input before
   pub state : later ≡ runsState (length input) input before
-
--- The rest is what the private functions promise each other: the same where a text fits.
-pub record Ends (out : List ℕ) (i : ℕ) (step : Outcome) (later : State) (outLater : List ℕ) (j : ℕ) : Type 0 where
-  pub state : later ≡ step .state
-  pub text : Wrote out i (step .text) outLater j
-
--- Whatever the registers hold, the later progress stands for what f makes of the one before.
-abbrev pub StandsAs : (State → State) → Progress → Progress → Type 0
-StandsAs f before later = (d e : List ℕ) → stateOf later d e ≡ f (stateOf before d e)
-
-abbrev pub EndsAs : (State → Outcome) → List ℕ → ℕ → Progress → Progress → List ℕ → ℕ → Type 0
-EndsAs f out i before later outLater j = (d e : List ℕ) → Ends out i (f (stateOf before d e)) (stateOf later d e) outLater j
-
--- The opening's numbers with those of the line that is expected.
-unfoldable pub valuesWith : List ℕ → ℕ → Numbers → List ℕ
-valuesWith xs expected v =
-    cond (eqb expected 6) (sets xs 6 (v .first ∷ v .second ∷ v .third ∷ v .fourth ∷ [])) (sets xs (placeOfLine expected) (v .first ∷ []))
-
--- The run line at the front of an input, where it fits after so many readings.
-unfoldable pub runAt : List ℕ → ℕ → Run
-runAt l filled =
-    cond (isRun l filled)
-    (record {
-      bytes = placeOf 10 l + 1;
-      count = getD (runLine (lineAt l)) 0 0;
-      delivered = getD (runLine (lineAt l)) 1 0;
-      received = getD (runLine (lineAt l)) 2 0;
-    })
-    (record { bytes = 0; count = 0; delivered = 0; received = 0 })
-
--- Whatever the registers hold, the later progress has this number of lines, and so many readings at their fronts.
-abbrev pub ranTo : Progress → ℕ → List ℕ → List ℕ → State
-ranTo x number delivered received =
-    state number (x .expected) (x .values) (x .account) (monthOf (x .month) (x .critical) delivered received)
-
-abbrev pub StandsAfter : Progress → ℕ → ℕ → Progress → Type 0
-StandsAfter before number filled later = (d e : List ℕ) → stateOf later d e ≡ ranTo before number (take filled d) (take filled e)

@@ -9,7 +9,8 @@ ghost use Rattle.grammar.specs.Grammar.{openingLine, billLine, criticalLine, ru
 ghost use Rattle.numerals.specs.Reading.{numbersAs};
 ghost use Rattle.printing.specs.Writing.{hasRoom, Put};
 ghost use Rattle.progress.specs.Statement.{start, runExpected, nextNumber, counted, begun, fault, monthReply, opened, openingRead, billRead, criticalRead, runRead, monthEnd, runOrBillRead, expectedRead, lineRead, atEnd};
-ghost use Rattle.progress.specs.Progressing.{stateOf, valuesWith, StandsFor, StandsAs, Ends, EndsAs, Reads, runAt, StandsAfter, RunsRead};
+ghost use Rattle.progress.specs.Progressing.{stateOf, StandsFor, Reads, RunsRead};
+ghost use Rattle.progress.specs.Ending.{valuesWith, StandsAs, Ends, EndsAs, runAt, StandsAfter};
 use account::Account;
 use account::BillingReply;
 use numerals::Numbers;
@@ -79,7 +80,7 @@ fn count(progress: Progress) -> Progress
 }
 
 // A fault of the line that was counted last.
-fn stop_at(progress: Progress, out: &mut [u8], at: usize) -> Ended
+fn fault_at(progress: Progress, out: &mut [u8], at: usize) -> Ended
     requires { ⌜ hasRoom (now out) at ≡ true ⌝ }
     ensures { λ r. ⌜ EndsAs fault (now (out .entry)) at progress (r .progress) (now (out .exit)) (r .at) ⌝ }
 {
@@ -155,7 +156,7 @@ fn opening_line(progress: Progress, line: &[u8], out: &mut [u8], at: usize) -> E
     let expected = progress.expected;
     let numbers = grammar::opening_line(expected, line);
     if numbers.count == 0 {
-        return stop_at(progress, out, at);
+        return fault_at(progress, out, at);
     }
     let old = progress.values;
     let values = with_values(old, expected, numbers);
@@ -186,7 +187,7 @@ fn bill_line(progress: Progress, line: &[u8], out: &mut [u8], at: usize) -> Ende
 {
     let numbers = grammar::bill_line(line);
     if numbers.count == 0 {
-        return stop_at(progress, out, at);
+        return fault_at(progress, out, at);
     }
     Ended {
         progress: begin_month(progress, numbers.first),
@@ -201,7 +202,7 @@ fn critical_line(progress: Progress, line: &[u8], out: &mut [u8], at: usize) -> 
 {
     let numbers = grammar::critical_line(line);
     if numbers.count == 0 {
-        return stop_at(progress, out, at);
+        return fault_at(progress, out, at);
     }
     let mut next = progress;
     next.expected = RUN_EXPECTED;
@@ -247,7 +248,7 @@ fn run_of(
     let filled = readings(delivered, progress.filled);
     let more = numbers.first as usize;
     if MOST_READINGS < filled + more {
-        return stop_at(progress, out, at);
+        return fault_at(progress, out, at);
     }
     let end = filled + more;
     fill(delivered, filled, end, numbers.second);
@@ -295,7 +296,7 @@ fn end_month(
 }
 
 // A run, or the bill line of the next month.
-fn later_line(
+fn run_or_bill_line(
     progress: Progress,
     line: &[u8],
     delivered: &mut [u32; 2976],
@@ -312,7 +313,7 @@ fn later_line(
     }
     let bill = grammar::bill_line(line);
     if bill.count == 0 {
-        return stop_at(progress, out, at);
+        return fault_at(progress, out, at);
     }
     let ended = end_month(progress, delivered, received, out, at);
     let after = ended.progress;
@@ -386,7 +387,7 @@ fn expected_line(
         return critical_line(progress, line, out, at);
     }
     if expected == RUN_EXPECTED {
-        return later_line(progress, line, delivered, received, out, at);
+        return run_or_bill_line(progress, line, delivered, received, out, at);
     }
     Ended { progress, at }
 }

@@ -10,7 +10,8 @@ use lib.ListN.{length, set, take, drop, length-append, length-drop, drop-of-leng
 use lib.Seq.{sets, length-sets, take-all, take-add, drop-drop}
 use Rattle.printing.specs.Writing.{hasRoom, Wrote}
 use Rattle.session.specs.Feeding.{SoFar, after, printed, takenOf}
-use Rattle.session.specs.Sessions.{Feeds, Takes}
+use Rattle.session.specs.Sessions.{Feeds}
+use Rattle.session.specs.Taking.{Takes}
 use Rattle.session.proofs.Streams.{cut-text, cut-state}
 use Rattle.session.proofs.Taking.{none-taken}
 

@@ -10,7 +10,7 @@ use borrow.Author.Tests.{leb-true, leb-false}
 use lib.Dec.{leb}
 use lib.ListN.{length, getD, set, take, length-take}
 use lib.Seq.{take-all, take-suc, take-suc-set, take-append-add, length-take-le}
-use Rattle.session.specs.Sessions.{Keeps}
+use Rattle.session.specs.Taking.{Keeps}
 
 -- So many as are asked for, or all.
 pub least-taken : (l : List ℕ) (n r : ℕ) → r ≡ min n (length l) → take r l ≡ take n l

@@ -13,7 +13,7 @@ use Rattle.progress.specs.Statement.{State, lineRead}
 use Rattle.progress.specs.Progressing.{lineAt, isRunExpected, runsBytes, runsState, RunsRead}
 use Rattle.progress.proofs.RunLines.{expected-newline, run-quiet, bytes-none, state-none, bytes-more, state-more}
 use Rattle.session.specs.Feeding.{SoFar, after, printed, takenOf}
-use Rattle.session.specs.Sessions.{lineBytes, TakesLine, Takes, held}
+use Rattle.session.specs.Taking.{lineBytes, TakesLine, Takes, held}
 use Rattle.session.proofs.Streams.{cut-text, cut-state, newline-state, newline-text}
 use Rattle.session.proofs.Lines.{line-cut}
 use Rattle.session.proofs.Taking.{bytes-some, bytes-within, bytes-place, newline-last}

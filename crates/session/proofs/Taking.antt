@@ -13,7 +13,7 @@ use lib.Seq.{take-all}
 use Rattle.text.specs.Text.{placeOf}
 use Rattle.progress.specs.Statement.{State, lineRead}
 use Rattle.session.specs.Feeding.{SoFar, afterByte, byteText, after, printed, takenOf}
-use Rattle.session.specs.Sessions.{lineBytes}
+use Rattle.session.specs.Taking.{lineBytes}
 use Rattle.session.proofs.Lines.{text-fits}
 use Rattle.session.proofs.Streams.{cut-text, cut-state, newline-state, newline-text, other-state, other-text, kept-again}
 

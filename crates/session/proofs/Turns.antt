@@ -10,7 +10,7 @@ use Rattle.printing.specs.Writing.{hasRoom, Wrote}
 use Rattle.progress.specs.Statement.{State, lineRead}
 use Rattle.progress.specs.Progressing.{Reads}
 use Rattle.session.specs.Feeding.{SoFar, afterByte, byteText, after, printed}
-use Rattle.session.specs.Sessions.{lineBytes, Keeps, TakesLine}
+use Rattle.session.specs.Taking.{lineBytes, Keeps, TakesLine}
 use Rattle.session.proofs.Streams.{cut-text, cut-state, newline-state, newline-text}
 use Rattle.session.proofs.Taking.{place-within, bytes-all, bytes-place, newline-last, front-text, front-state}
 

@@ -1,2 +1,3 @@
 pub mod Feeding
 pub mod Sessions
+pub mod Taking

@@ -8,7 +8,8 @@ ghost use lib.ListN.{length, take};
 ghost use Rattle.printing.specs.Writing.{hasRoom};
 ghost use Rattle.progress.specs.Statement.{runExpected, lineRead};
 ghost use Rattle.progress.specs.Progressing.{stateOf, Reads};
-ghost use Rattle.session.specs.Sessions.{soFarOf, Begins, Feeds, Finishes, Keeps, TakesLine, Takes, held};
+ghost use Rattle.session.specs.Sessions.{soFarOf, Begins, Feeds, Finishes};
+ghost use Rattle.session.specs.Taking.{Keeps, TakesLine, Takes, held};
 use progress::Ended;
 use progress::Progress;
 
@@ -22,6 +23,7 @@ const NEWLINE: u8 = 10;
 
 // The progress of the lines so far, and how many bytes are held of the line that isn't complete yet. They stand at the front of a buffer that
 // the caller lends, and the month's readings at the front of two registers: lend the same ones at each call, as the call before left them.
+// Lend at least 2,048 bytes for texts: with fewer `finish` writes nothing, and with fewer than 1,024 `feed` takes nothing.
 pub struct Session {
     held: usize,
     progress: Progress,

@@ -33,103 +33,73 @@ pub fn all() -> Vec<Wrong> {
 
 type Named = (&'static str, Rules);
 
+/// The rules with another refusal of closings.
+fn closing(of_closing: fn(&Account) -> Option<Refusal>) -> Rules {
+    Rules {
+        of_closing,
+        ..RIGHT
+    }
+}
+
+fn closed_as(account: Account) -> Option<Refusal> {
+    refusal::of_closing(&account)
+}
+
+/// An account in which one number is read as another.
+fn with_carried(account: &Account, from: u64, to: u64) -> Account {
+    Account {
+        carried: account.carried.map(|wh| if wh == from { to } else { wh }),
+        ..*account
+    }
+}
+
+fn with_standing(account: &Account, from: u64, to: u64) -> Account {
+    match account.standing == from {
+        true => Account {
+            standing: to,
+            ..*account
+        },
+        false => *account,
+    }
+}
+
+fn with_next_month(account: &Account, from: u32, to: u32) -> Account {
+    match account.next_month == from {
+        true => Account {
+            next_month: to,
+            ..*account
+        },
+        false => *account,
+    }
+}
+
 /// Variants that no list from a fresh account shows: the account is read with one of
 /// its numbers changed, or a rule goes wrong only where no such list gets.
 pub fn given() -> Vec<Wrong> {
-    fn closing_of(changed: Account) -> Option<Refusal> {
-        refusal::of_closing(&changed)
-    }
-    fn exchanged(numbers: ByPeriod, from: u64, to: u64) -> ByPeriod {
-        numbers.map(|wh| if wh == from { to } else { wh })
-    }
     let named: Vec<Named> = vec![
         (
             "refusal 3 allows a Wh too many",
-            Rules {
-                of_closing: |account| {
-                    closing_of(Account {
-                        carried: exchanged(account.carried, MOST_CARRIED + 1, MOST_CARRIED),
-                        ..*account
-                    })
-                },
-                ..RIGHT
-            },
+            closing(|account| closed_as(with_carried(account, MOST_CARRIED + 1, MOST_CARRIED))),
         ),
         (
             "refusal 3 allows a Wh too few",
-            Rules {
-                of_closing: |account| {
-                    closing_of(Account {
-                        carried: exchanged(account.carried, MOST_CARRIED, MOST_CARRIED + 1),
-                        ..*account
-                    })
-                },
-                ..RIGHT
-            },
+            closing(|account| closed_as(with_carried(account, MOST_CARRIED, MOST_CARRIED + 1))),
         ),
         (
             "refusal 3 allows a cent too many",
-            Rules {
-                of_closing: |account| {
-                    let standing = match account.standing == MOST_STANDING + 1 {
-                        true => MOST_STANDING,
-                        false => account.standing,
-                    };
-                    closing_of(Account {
-                        standing,
-                        ..*account
-                    })
-                },
-                ..RIGHT
-            },
+            closing(|account| closed_as(with_standing(account, MOST_STANDING + 1, MOST_STANDING))),
         ),
         (
             "refusal 3 allows a cent too few",
-            Rules {
-                of_closing: |account| {
-                    let standing = match account.standing == MOST_STANDING {
-                        true => MOST_STANDING + 1,
-                        false => account.standing,
-                    };
-                    closing_of(Account {
-                        standing,
-                        ..*account
-                    })
-                },
-                ..RIGHT
-            },
+            closing(|account| closed_as(with_standing(account, MOST_STANDING, MOST_STANDING + 1))),
         ),
         (
             "refusal 3 allows a month too many",
-            Rules {
-                of_closing: |account| {
-                    let next_month = match account.next_month {
-                        1_201 => 1_200,
-                        month => month,
-                    };
-                    closing_of(Account {
-                        next_month,
-                        ..*account
-                    })
-                },
-                ..RIGHT
-            },
+            closing(|account| closed_as(with_next_month(account, 1_201, 1_200))),
         ),
         (
             "refusal 3 allows a month too few",
-            Rules {
-                of_closing: |account| {
-                    let next_month = match account.next_month {
-                        1_200 => 1_201,
-                        month => month,
-                    };
-                    closing_of(Account {
-                        next_month,
-                        ..*account
-                    })
-                },
-                ..RIGHT
-            },
+            closing(|account| closed_as(with_next_month(account, 1_200, 1_201))),
         ),
         (
             "refusal 3 doesn't ask for the account's price list",

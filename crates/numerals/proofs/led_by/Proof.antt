@@ -1,6 +1,6 @@
 -- `numerals::led_by` asks for the numbers in the order of the definition.
 use borrow.Author.Tests.{eq-eqb, ne-eqb}
-use Rattle.numerals.specs.Reading.{ledBy}
+use Rattle.numerals.specs.Joining.{ledBy}
 use borrow.Author.Needs.{needs}
 use Rattle.numerals.proofs.led_by.Statement.{statement}
 use Rattle.numerals.proofs.led_by.Tie as tie

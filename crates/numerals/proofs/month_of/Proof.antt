@@ -1,6 +1,6 @@
 -- `numerals::month_of` asks for year and month in the order of the definition.
 use borrow.Author.Tests.{le-leb, lt-leb}
-use Rattle.numerals.specs.Reading.{monthFrom}
+use Rattle.numerals.specs.Joining.{monthFrom}
 use borrow.Author.Needs.{needs}
 use Rattle.numerals.proofs.month_of.Statement.{statement}
 use Rattle.numerals.proofs.month_of.Tie as tie

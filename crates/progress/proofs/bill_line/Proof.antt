@@ -12,15 +12,15 @@ use Rattle.progress.proofs.bill_line.Reads as reads
 use Rattle.progress.proofs.bill_line.Lts as lts
 use Rattle.grammar.proofs.bill_line.Reads as bill-line-reads
 use Rattle.progress.proofs.begin_month.Reads as begin-month-reads
-use Rattle.progress.proofs.stop_at.Reads as stop-at-reads
+use Rattle.progress.proofs.fault_at.Reads as fault-at-reads
 
 -- src/lib.rt:171:9
 bill-line-requires : tie.Need-bill-line-requires
 bill-line-requires c κs = search needs
 
 -- src/lib.rt:173:9
-stop-at-requires : tie.Need-stop-at-requires
-stop-at-requires c κs = search needs
+fault-at-requires : tie.Need-fault-at-requires
+fault-at-requires c κs = search needs
 
 -- src/lib.rt:173:9
 same-length : tie.Need-same-length
@@ -31,7 +31,7 @@ returns : tie.Need-returns
 returns c = λ d e.
     let st = c .before .before .before .before .before .before .before .before .before in
     let s = stateOf (st .args .progress) d e in
-    ends-by _ _ _ _ _ _ _ (bill-no (billLine (st .args .line .now)) _ (c .before .before .before .before .before .before .bill-line .ensures) s (c .before .before .before .before .if1 .taken)) (c .before .before .stop-at .ensures d e)
+    ends-by _ _ _ _ _ _ _ (bill-no (billLine (st .args .line .now)) _ (c .before .before .before .before .before .before .bill-line .ensures) s (c .before .before .before .before .if1 .taken)) (c .before .before .fault-at .ensures d e)
 
 -- src/lib.rt:176:19
 begin-month-requires : tie.Need-begin-month-requires
@@ -49,7 +49,7 @@ bill-line-spec =
     tie.close
     (tie.spec
     bill-line-requires
-    stop-at-requires
+    fault-at-requires
     same-length
     returns
     begin-month-requires

@@ -11,15 +11,15 @@ use Rattle.progress.proofs.critical_line.Tie as tie
 use Rattle.progress.proofs.critical_line.Reads as reads
 use Rattle.progress.proofs.critical_line.Lts as lts
 use Rattle.grammar.proofs.critical_line.Reads as critical-line-reads
-use Rattle.progress.proofs.stop_at.Reads as stop-at-reads
+use Rattle.progress.proofs.fault_at.Reads as fault-at-reads
 
 -- src/lib.rt:186:9
 critical-line-requires : tie.Need-critical-line-requires
 critical-line-requires c κs = search needs
 
 -- src/lib.rt:188:9
-stop-at-requires : tie.Need-stop-at-requires
-stop-at-requires c κs = search needs
+fault-at-requires : tie.Need-fault-at-requires
+fault-at-requires c κs = search needs
 
 -- src/lib.rt:188:9
 same-length : tie.Need-same-length
@@ -30,7 +30,7 @@ returns : tie.Need-returns
 returns c = λ d e.
     let st = c .before .before .before .before .before .before .before .before .before in
     let s = stateOf (st .args .progress) d e in
-    ends-by _ _ _ _ _ _ _ (critical-no (criticalLine (st .args .line .now)) _ (c .before .before .before .before .before .before .critical-line .ensures) s (c .before .before .before .before .if1 .taken)) (c .before .before .stop-at .ensures d e)
+    ends-by _ _ _ _ _ _ _ (critical-no (criticalLine (st .args .line .now)) _ (c .before .before .before .before .before .before .critical-line .ensures) s (c .before .before .before .before .if1 .taken)) (c .before .before .fault-at .ensures d e)
 
 -- src/lib.rt:182:1
 returns-2 : tie.Need-returns-2
@@ -41,4 +41,4 @@ returns-2 c = λ d e.
 
 pub critical-line-spec : {M : Type 1} → statement M
 critical-line-spec =
-    tie.close (tie.spec critical-line-requires stop-at-requires same-length returns returns-2)
+    tie.close (tie.spec critical-line-requires fault-at-requires same-length returns returns-2)

@@ -8,7 +8,7 @@ use Rattle.progress.proofs.expected_line.Reads as reads
 use Rattle.progress.proofs.expected_line.Lts as lts
 use Rattle.progress.proofs.bill_line.Reads as bill-line-reads
 use Rattle.progress.proofs.critical_line.Reads as critical-line-reads
-use Rattle.progress.proofs.later_line.Reads as later-line-reads
+use Rattle.progress.proofs.run_or_bill_line.Reads as run-or-bill-line-reads
 use Rattle.progress.proofs.opening_line.Reads as opening-line-reads
 
 -- src/lib.rt:323:9
@@ -66,8 +66,8 @@ returns-3 c =
     ends-by _ _ _ _ _ _ _ (expected-critical l s (c .before .before .before .before .before .before .if1 .left) (c .before .before .before .before .before .if2 .left) (c .before .before .before .before .if3 .taken)) (c .before .before .critical-line .ensures d e)
 
 -- src/lib.rt:332:9
-later-line-requires : tie.Need-later-line-requires
-later-line-requires c κs = search needs
+run-or-bill-line-requires : tie.Need-run-or-bill-line-requires
+run-or-bill-line-requires c κs = search needs
 
 -- src/lib.rt:332:9
 same-length-4 : tie.Need-same-length-4
@@ -81,7 +81,7 @@ returns-4 c =
     let e = st .args .received .now in
     let l = st .args .line .now in
     let s = stateOf (st .args .progress) d e in
-    ends-by _ _ _ _ _ _ _ (expected-later l s (c .before .before .before .before .before .before .before .before .before .if1 .left) (c .before .before .before .before .before .before .before .before .if2 .left) (c .before .before .before .before .before .before .before .if3 .left) (c .before .before .before .before .before .before .if4 .taken)) (c .before .before .later-line .ensures)
+    ends-by _ _ _ _ _ _ _ (expected-later l s (c .before .before .before .before .before .before .before .before .before .if1 .left) (c .before .before .before .before .before .before .before .before .if2 .left) (c .before .before .before .before .before .before .before .if3 .left) (c .before .before .before .before .before .before .if4 .taken)) (c .before .before .run-or-bill-line .ensures)
 
 -- src/lib.rt:310:1
 returns-5 : tie.Need-returns-5
@@ -106,7 +106,7 @@ expected-line-spec =
     critical-line-requires
     same-length-3
     returns-3
-    later-line-requires
+    run-or-bill-line-requires
     same-length-4
     returns-4
     returns-5)

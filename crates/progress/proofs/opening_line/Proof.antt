@@ -13,7 +13,7 @@ use Rattle.progress.proofs.opening_line.Reads as reads
 use Rattle.progress.proofs.opening_line.Lts as lts
 use Rattle.grammar.proofs.opening_line.Reads as opening-line-reads
 use Rattle.progress.proofs.open.Reads as open-reads
-use Rattle.progress.proofs.stop_at.Reads as stop-at-reads
+use Rattle.progress.proofs.fault_at.Reads as fault-at-reads
 use Rattle.progress.proofs.with_values.Reads as with-values-reads
 
 -- src/lib.rt:140:9
@@ -21,8 +21,8 @@ opening-line-requires : tie.Need-opening-line-requires
 opening-line-requires c κs = search needs
 
 -- src/lib.rt:142:9
-stop-at-requires : tie.Need-stop-at-requires
-stop-at-requires c κs = search needs
+fault-at-requires : tie.Need-fault-at-requires
+fault-at-requires c κs = search needs
 
 -- src/lib.rt:142:9
 same-length : tie.Need-same-length
@@ -33,7 +33,7 @@ returns : tie.Need-returns
 returns c = λ d e.
     let st = c .before .before .before .before .before .before .before .before .before in
     let v = openingLine (st .args .progress .expected) (st .args .line .now) in
-    ends-by _ _ _ _ _ _ _ (opening-no v _ (c .before .before .before .before .before .before .opening-line .ensures) (stateOf (st .args .progress) d e) (c .before .before .before .before .if1 .taken)) (c .before .before .stop-at .ensures d e)
+    ends-by _ _ _ _ _ _ _ (opening-no v _ (c .before .before .before .before .before .before .opening-line .ensures) (stateOf (st .args .progress) d e) (c .before .before .before .before .if1 .taken)) (c .before .before .fault-at .ensures d e)
 
 -- src/lib.rt:145:9
 with-values-requires : tie.Need-with-values-requires
@@ -82,7 +82,7 @@ opening-line-spec =
     tie.close
     (tie.spec
     opening-line-requires
-    stop-at-requires
+    fault-at-requires
     same-length
     returns
     with-values-requires

@@ -9,7 +9,7 @@ use Rattle.progress.proofs.run_of.Reads as reads
 use Rattle.progress.proofs.run_of.Lts as lts
 use Rattle.progress.proofs.fill.Reads as fill-reads
 use Rattle.progress.proofs.readings.Reads as readings-reads
-use Rattle.progress.proofs.stop_at.Reads as stop-at-reads
+use Rattle.progress.proofs.fault_at.Reads as fault-at-reads
 
 -- src/lib.rt:231:9
 readings-requires : tie.Need-readings-requires
@@ -24,8 +24,8 @@ add-if1 : tie.Need-add-if1
 add-if1 c = search needs
 
 -- src/lib.rt:234:9
-stop-at-requires : tie.Need-stop-at-requires
-stop-at-requires c κs = search needs
+fault-at-requires : tie.Need-fault-at-requires
+fault-at-requires c κs = search needs
 
 -- src/lib.rt:234:9
 same-length : tie.Need-same-length
@@ -38,7 +38,7 @@ returns c =
     ends-by _ _ _ _ _ _ _
     (run-past (st .args .progress) (st .args .delivered .now) (st .args .received .now) (st .args .numbers .first) (st .args .numbers .second) (st .args .numbers .third)
     _ (c .before .before .before .before .before .before .readings .ensures) (c .before .before .before .before .if1 .taken))
-    (c .before .before .stop-at .ensures (st .args .delivered .now) (st .args .received .now))
+    (c .before .before .fault-at .ensures (st .args .delivered .now) (st .args .received .now))
 
 -- src/lib.rt:236:15
 add-end : tie.Need-add-end
@@ -67,7 +67,7 @@ run-of-spec =
     readings-requires
     cast-more
     add-if1
-    stop-at-requires
+    fault-at-requires
     same-length
     returns
     add-end

@@ -2,7 +2,7 @@
 use native.Mathlib.Omega.{arith}
 use borrow.Author.Needs.{needs}
 use borrow.Author.Tests.{eq-eqb, ne-eqb, le-leb, lt-leb}
-use Rattle.progress.specs.Progressing.{valuesWith}
+use Rattle.progress.specs.Ending.{valuesWith}
 use Rattle.progress.proofs.with_values.Statement.{statement}
 use Rattle.progress.proofs.with_values.Tie as tie
 use Rattle.progress.proofs.with_values.Reads as reads

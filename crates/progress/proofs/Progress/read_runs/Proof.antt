@@ -4,7 +4,8 @@ use Prim.Native.Nat.{_+_, _-_, _≤_}
 use native.Mathlib.Omega.{arith}
 use borrow.Author.Needs.{needs}
 use lib.ListN.{length, take, drop, length-take, length-drop}
-use Rattle.progress.specs.Progressing.{stateOf, ranTo}
+use Rattle.progress.specs.Progressing.{stateOf}
+use Rattle.progress.specs.Ending.{ranTo}
 use Rattle.progress.proofs.RunLines.{Running, running-start, running-none, running-all, running-more, loop-start, none-expected, ran-to}
 use Rattle.progress.proofs.RunLines.{turn-none, turn-expected, turn-bytes, turn-within, turn-fits, turn-state}
 use Rattle.progress.proofs.Progress.read_runs.Statement.{statement}

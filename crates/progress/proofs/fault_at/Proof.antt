@@ -1,12 +1,12 @@
--- `progress::stop_at` writes the number of the line, and no line is expected any more.
+-- `progress::fault_at` writes the number of the line, and no line is expected any more.
 use mathlib.Core.Path.{refl}
 use Rattle.progress.specs.Statement.{fault}
 use Rattle.progress.proofs.Lines.{puts}
 use borrow.Author.Needs.{needs}
-use Rattle.progress.proofs.stop_at.Statement.{statement}
-use Rattle.progress.proofs.stop_at.Tie as tie
-use Rattle.progress.proofs.stop_at.Reads as reads
-use Rattle.progress.proofs.stop_at.Lts as lts
+use Rattle.progress.proofs.fault_at.Statement.{statement}
+use Rattle.progress.proofs.fault_at.Tie as tie
+use Rattle.progress.proofs.fault_at.Reads as reads
+use Rattle.progress.proofs.fault_at.Lts as lts
 use Rattle.printing.proofs.put_line.Reads as put-line-reads
 
 -- src/lib.rt:74:13
@@ -22,5 +22,5 @@ returns : tie.Need-returns
 unfolding fault
 returns c = λ d e. record { state = refl; text = puts _ _ _ _ _ (c .before .before .before .before .before .pre) (c .before .before .put-line .ensures) }
 
-pub stop-at-spec : {M : Type 1} → statement M
-stop-at-spec = tie.close (tie.spec put-line-requires same-length returns)
+pub fault-at-spec : {M : Type 1} → statement M
+fault-at-spec = tie.close (tie.spec put-line-requires same-length returns)

@@ -1,17 +1,17 @@
--- `progress::later_line` reads a run, or ends the month at the next bill line.
+-- `progress::run_or_bill_line` reads a run, or ends the month at the next bill line.
 use Rattle.progress.specs.Progressing.{stateOf}
 use Rattle.progress.proofs.Lines.{ends-by, later-run, later-no, later-bill, month-begins}
 use borrow.Author.Needs.{needs}
-use Rattle.progress.proofs.later_line.Statement.{statement}
-use Rattle.progress.proofs.later_line.Tie as tie
-use Rattle.progress.proofs.later_line.Reads as reads
-use Rattle.progress.proofs.later_line.Lts as lts
+use Rattle.progress.proofs.run_or_bill_line.Statement.{statement}
+use Rattle.progress.proofs.run_or_bill_line.Tie as tie
+use Rattle.progress.proofs.run_or_bill_line.Reads as reads
+use Rattle.progress.proofs.run_or_bill_line.Lts as lts
 use Rattle.grammar.proofs.bill_line.Reads as bill-line-reads
 use Rattle.grammar.proofs.run_line.Reads as run-line-reads
 use Rattle.progress.proofs.begin_month.Reads as begin-month-reads
 use Rattle.progress.proofs.end_month.Reads as end-month-reads
 use Rattle.progress.proofs.run_of.Reads as run-of-reads
-use Rattle.progress.proofs.stop_at.Reads as stop-at-reads
+use Rattle.progress.proofs.fault_at.Reads as fault-at-reads
 
 -- src/lib.rt:293:9
 run-line-requires : tie.Need-run-line-requires
@@ -37,8 +37,8 @@ bill-line-requires : tie.Need-bill-line-requires
 bill-line-requires c κs = search needs
 
 -- src/lib.rt:299:9
-stop-at-requires : tie.Need-stop-at-requires
-stop-at-requires c κs = search needs
+fault-at-requires : tie.Need-fault-at-requires
+fault-at-requires c κs = search needs
 
 -- src/lib.rt:299:9
 same-length-2 : tie.Need-same-length-2
@@ -52,7 +52,7 @@ returns-2 c =
     let e = st .args .received .now in
     ends-by _ _ _ _ _ _ _
     (later-no (st .args .line .now) (stateOf (st .args .progress) d e) _ (c .before .before .before .before .before .before .before .before .before .run-line .ensures) _ (c .before .before .before .before .before .before .bill-line .ensures) (c .before .before .before .before .before .before .before .if1 .left) (c .before .before .before .before .if2 .taken))
-    (c .before .before .stop-at .ensures d e)
+    (c .before .before .fault-at .ensures d e)
 
 -- src/lib.rt:301:9
 end-month-requires : tie.Need-end-month-requires
@@ -76,8 +76,8 @@ returns-3 c =
     (later-bill (st .args .line .now) (stateOf (st .args .progress) d e) _ (c .before .before .before .before .before .before .before .before .before .before .before .before .before .before .before .run-line .ensures) _ (c .before .before .before .before .before .before .before .before .before .before .before .before .bill-line .ensures) (c .before .before .before .before .before .before .before .before .before .before .before .before .before .if1 .left) (c .before .before .before .before .before .before .before .before .before .before .if2 .left))
     (c .before .before .before .before .end-month .ensures) (c .begin-month .ensures d e)
 
-pub later-line-spec : {M : Type 1} → statement M
-later-line-spec =
+pub run-or-bill-line-spec : {M : Type 1} → statement M
+run-or-bill-line-spec =
     tie.close
     (tie.spec
     run-line-requires
@@ -85,7 +85,7 @@ later-line-spec =
     same-length
     returns
     bill-line-requires
-    stop-at-requires
+    fault-at-requires
     same-length-2
     returns-2
     end-month-requires
