@@ -1,8 +1,9 @@
-"""After `rt ci`: each wrong program of crates/*/must-fail is refused for the fact that it names.
+"""After `rt ci`: each wrong program of crates/*/must-fail is refused for the fact that it names, and each public function has two of them.
 
 An edit file has one wrong program or more, each under a line `# NAME, refused at PLACE: FACT`. The place is a function, and the fact a part of its
 proof; or the place is a file of laws, and the fact a law. Several wrong programs share a file, and so one check, only where no two of them touch
-the same function: a function is proved against contracts alone, so that none of them can be what breaks another's fact.
+the same function: a function is proved against contracts alone, so that none of them can be what breaks another's fact. A wrong program counts
+for a public function where it touches that function, or one of its crate that the function calls, or is refused there.
 """
 import glob
 import os
@@ -11,6 +12,7 @@ import sys
 
 HEAD = re.compile(r"^# (\w+), refused at ([\w:]+): ([\w-]+)$")
 ITEM = re.compile(r"^\s*(?:pub )?(?:extern \"C\" )?(fn|const) (\w+)", re.M)
+PUBLIC = re.compile(r"^\s*pub (?:extern \"C\" )?fn (\w+)", re.M)
 NOT_ADMITTED = "was not admitted (it has holes or undetermined implicits, or was rejected), so this cannot be checked"
 
 
@@ -65,6 +67,32 @@ def failing(crate, log):
     return facts
 
 
+def called(name, functions):
+    """A function and all of its crate that it calls."""
+    found, left = set(), [name]
+    while left:
+        name = left.pop()
+        if name not in found:
+            found.add(name)
+            left += [other for other in functions if re.search(rf"\b{other}\(", functions[name])]
+    return found
+
+
+def too_few(crate):
+    """The public functions of a crate for which fewer than two wrong programs count."""
+    source = "".join(open(path, encoding="utf-8").read() for path in sorted(glob.glob(f"crates/{crate}/src/*.rt")))
+    functions = {name: text for kind, name, text in items(source) if kind == "fn"}
+    reached = []
+    for path in glob.glob(f"crates/{crate}/must-fail/*.edit"):
+        for _, place, _, replaced in wrong_programs(path)[0]:
+            code = [(file, old) for file, old in replaced if file.startswith("src/")]
+            reached.append(touched(crate, code) | {place.split("::")[-1]})
+    for name in PUBLIC.findall(source):
+        count = sum(1 for functions_reached in reached if functions_reached & called(name, functions))
+        if count < 2:
+            yield f"crates/{crate}: {count} wrong programs for {name}"
+
+
 def faults_of(path):
     """What is wrong with an edit file or its refusal, and how many wrong programs it has."""
     crate, label = path.split("/")[1], os.path.basename(path).removesuffix(".edit")
@@ -90,11 +118,10 @@ def faults_of(path):
 def main():
     paths = sorted(glob.glob("crates/*/must-fail/*.edit"))
     found = [faults_of(path) for path in paths]
-    for faults, _ in found:
-        for fault in faults:
-            print(fault)
-    if any(faults for faults, _ in found):
-        sys.exit(1)
+    faults = [fault for some, _ in found for fault in some]
+    faults += [fault for path in sorted(glob.glob("crates/*/src")) for fault in too_few(path.split("/")[1])]
+    if faults:
+        sys.exit("\n".join(faults))
     print(f"{sum(count for _, count in found)} wrong programs refused in {len(paths)} checks, each for the fact that it names")
 
 
