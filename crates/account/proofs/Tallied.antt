@@ -6,7 +6,7 @@ use Prim.Native.Nat.{ℕ, _≤_}
 use native.Mathlib.Omega.{arith}
 use borrow.Author.Tests.{ne-eqb}
 use Rattle.hours.specs.CriticalDays.{criticalRefused}
-use Rattle.hours.specs.Hours.{fixedSchedule, byPeriod}
+use Rattle.hours.specs.Hours.{byPeriod}
 use Rattle.registers.specs.Registers.{sumOf, demandPower, lengthRefused, readingRefused, tallyOf}
 use Rattle.registers.proofs.Laws.{tally-length, tally-right, sum-within, power-within}
 use Rattle.tariff.proofs.Laws.{nameplate-within}
@@ -20,56 +20,56 @@ use Rattle.account.specs.declared.BillingReply.{BillingReply}
 use Rattle.billing.proofs.Limits.{billable-true, at-most}
 use Rattle.account.specs.declared.Account.{Account}
 use Rattle.account.specs.Refusals.{isFresh, unusable, billingNumber}
-use Rattle.account.specs.Account.{billOf, billingReply}
+use Rattle.account.specs.Account.{scheduleOf, billOf, billingReply}
 use Rattle.account.specs.Tallies.{replyFrom}
 use Rattle.account.proofs.Accepted.{BillingAccepted, billing-accepted}
 
 module _ (a : Account) (m : ℕ) (delivered received : List ℕ) (x : ℕ) where
   pub number-is :
       billingRow (isFresh (a .stage)) (unusable a) (a .next) m
-      (tallyOf fixedSchedule m x delivered .wronglength || tallyOf fixedSchedule m x received .wronglength)
+      (tallyOf (scheduleOf a) m x delivered .wronglength || tallyOf (scheduleOf a) m x received .wronglength)
       (criticalRefused m x)
-      (tallyOf fixedSchedule m x delivered .abovelimit || tallyOf fixedSchedule m x received .abovelimit)
+      (tallyOf (scheduleOf a) m x delivered .abovelimit || tallyOf (scheduleOf a) m x received .abovelimit)
       ≡ billingNumber a m delivered received x
   unfolding billingRow billingNumber
   number-is = by (lengthRefused m delivered) (lengthRefused m received) refl refl
     where
       by : (b c : Bool) → lengthRefused m delivered ≡ b → lengthRefused m received ≡ c
           → billingRow (isFresh (a .stage)) (unusable a) (a .next) m
-          (tallyOf fixedSchedule m x delivered .wronglength || tallyOf fixedSchedule m x received .wronglength)
+          (tallyOf (scheduleOf a) m x delivered .wronglength || tallyOf (scheduleOf a) m x received .wronglength)
           (criticalRefused m x)
-          (tallyOf fixedSchedule m x delivered .abovelimit || tallyOf fixedSchedule m x received .abovelimit)
+          (tallyOf (scheduleOf a) m x delivered .abovelimit || tallyOf (scheduleOf a) m x received .abovelimit)
           ≡ billingNumber a m delivered received x
-      by true c e f = rw (tally-length fixedSchedule m x delivered, tally-length fixedSchedule m x received, e)
-      by false true e f = rw (tally-length fixedSchedule m x delivered, tally-length fixedSchedule m x received, e, f)
-      by false false e f = rw (tally-right fixedSchedule m x delivered e, tally-right fixedSchedule m x received f, e, f)
+      by true c e f = rw (tally-length (scheduleOf a) m x delivered, tally-length (scheduleOf a) m x received, e)
+      by false true e f = rw (tally-length (scheduleOf a) m x delivered, tally-length (scheduleOf a) m x received, e, f)
+      by false false e f = rw (tally-right (scheduleOf a) m x delivered e, tally-right (scheduleOf a) m x received f, e, f)
 
   -- Sums of accepted registers are far below the limits.
   pub bill-is : billingNumber a m delivered received x ≡ 0 →
       billOrNone (a .terms) (a .prices) (a .carried) (a .standing) m
-      (tallyOf fixedSchedule m x delivered .sums)
-      (tallyOf fixedSchedule m x received .sums)
-      (tallyOf fixedSchedule m x delivered .power)
+      (tallyOf (scheduleOf a) m x delivered .sums)
+      (tallyOf (scheduleOf a) m x received .sums)
+      (tallyOf (scheduleOf a) m x delivered .power)
       ≡ billOf a m delivered received x
   unfolding billOrNone billOf
   bill-is e =
       let k : BillingAccepted a m delivered received x = billing-accepted a m delivered received x e in
-      let d : (p : ℕ) → sumOf fixedSchedule m x delivered p ≤ 2976000000 = sum-within fixedSchedule m x delivered (k .delivered-readings) in
-      let r : (p : ℕ) → sumOf fixedSchedule m x received p ≤ 2976000000 = sum-within fixedSchedule m x received (k .received-readings) in
+      let d : (p : ℕ) → sumOf (scheduleOf a) m x delivered p ≤ 2976000000 = sum-within (scheduleOf a) m x delivered (k .delivered-readings) in
+      let r : (p : ℕ) → sumOf (scheduleOf a) m x received p ≤ 2976000000 = sum-within (scheduleOf a) m x received (k .received-readings) in
       rw (
-        tally-right fixedSchedule m x delivered (k .delivered-length),
-        tally-right fixedSchedule m x received (k .received-length),
+        tally-right (scheduleOf a) m x delivered (k .delivered-length),
+        tally-right (scheduleOf a) m x received (k .received-length),
         billable-true (a .terms) (a .prices) (a .carried) (a .standing)
-            (byPeriod (sumOf fixedSchedule m x delivered))
-            (byPeriod (sumOf fixedSchedule m x received))
-            (demandPower fixedSchedule m x delivered)
+            (byPeriod (sumOf (scheduleOf a) m x delivered))
+            (byPeriod (sumOf (scheduleOf a) m x received))
+            (demandPower (scheduleOf a) m x delivered)
             (record {
               prices = k .account .holds .prices;
               nameplate = omega (arith, nameplate-within (a .terms) (k .account .holds .capacity) .most);
               carried-fits = at-most _ _ (k .account .possible .carried);
               delivered-fits = record { critical = omega (arith, d 0); onpeak = omega (arith, d 1); offpeak = omega (arith, d 2); discount = omega (arith, d 3) };
               exported-fits = record { critical = omega (arith, r 0); onpeak = omega (arith, r 1); offpeak = omega (arith, r 2); discount = omega (arith, r 3) };
-              power-fits = omega (arith, power-within fixedSchedule m x delivered (k .delivered-readings));
+              power-fits = omega (arith, power-within (scheduleOf a) m x delivered (k .delivered-readings));
               standing-fits = k .account .possible .standing;
             }),
       )
@@ -77,7 +77,7 @@ module _ (a : Account) (m : ℕ) (delivered received : List ℕ) (x : ℕ) where
   -- The number and the answer, from the values that the calls before them gave.
   pub number-found : (s : List ℕ) (t g : Tally) (fresh bad short days above : Bool) (n : ℕ)
       → fresh ≡ isFresh (a .stage) → bad ≡ unusable a
-      → s ≡ fixedSchedule → t ≡ tallyOf s m x delivered → g ≡ tallyOf s m x received
+      → s ≡ scheduleOf a → t ≡ tallyOf s m x delivered → g ≡ tallyOf s m x received
       → short ≡ (t .wronglength || g .wronglength) → days ≡ criticalRefused m x → above ≡ (t .abovelimit || g .abovelimit)
       → n ≡ billingRow fresh bad (a .next) m short days above → n ≡ billingNumber a m delivered received x
   number-found s t g fresh bad short days above n f u i j k o p q e = rw (e, f, u, o, p, q, j, k, i) number-is
@@ -105,7 +105,7 @@ module _ (a : Account) (m : ℕ) (delivered received : List ℕ) (x : ℕ) where
   unfolding billingReply
   refused-reply n b e z f = rw (f, ← e, ne-eqb n 0 z)
 
-  pub accepted-reply : (s : List ℕ) (t g : Tally) (n : ℕ) → s ≡ fixedSchedule → t ≡ tallyOf s m x delivered → g ≡ tallyOf s m x received
+  pub accepted-reply : (s : List ℕ) (t g : Tally) (n : ℕ) → s ≡ scheduleOf a → t ≡ tallyOf s m x delivered → g ≡ tallyOf s m x received
       → n ≡ billingNumber a m delivered received x → n ≡ 0 → replyFrom a m t g ≡ billingReply a m delivered received x
   unfolding billingReply replyFrom
   accepted-reply s t g n i j k e z =

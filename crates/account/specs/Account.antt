@@ -57,13 +57,17 @@ repriced a l =
       standing = a .standing;
     }
 
+-- "The hours are kept as a fixed schedule": the one that an account is billed by.
+unfoldable pub scheduleOf : Account → List ℕ
+scheduleOf a = fixedSchedule
+
 -- Steps 1 to 8 on an account. Step 2: "Delivered and exported for each period are the sums of the two registers over its quarters."
 unfoldable pub billOf : Account → ℕ → List ℕ → List ℕ → ℕ → Bill
 billOf a m delivered received x =
     billFrom (a .terms) (a .prices) (a .carried) (a .standing) m
-    (byPeriod (sumOf fixedSchedule m x delivered))
-    (byPeriod (sumOf fixedSchedule m x received))
-    (demandPower fixedSchedule m x delivered)
+    (byPeriod (sumOf (scheduleOf a) m x delivered))
+    (byPeriod (sumOf (scheduleOf a) m x received))
+    (demandPower (scheduleOf a) m x delivered)
 
 -- Steps 5, 8 and 9: the carried Wh are those left, the standing money that of the bill, and "The next month rises by one."
 abbrev pub afterBill : Account → Bill → Account

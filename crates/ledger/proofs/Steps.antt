@@ -5,7 +5,7 @@ use Prim.Native.Nat.{ℕ, _+_, _*_, _≤_}
 use native.Mathlib.Omega.{arith}
 use borrow.Author.Tests.{eqb-true}
 use lib.Dec.{eqb}
-use Rattle.hours.specs.Hours.{fixedSchedule, byPeriod}
+use Rattle.hours.specs.Hours.{byPeriod}
 use Rattle.hours.specs.declared.ByPeriod.{ByPeriod}
 use Rattle.registers.specs.Registers.{sumOf, demandPower}
 use Rattle.tariff.specs.declared.Terms.{Terms}
@@ -17,7 +17,7 @@ use Rattle.account.specs.declared.Stage.the-variants.{Fresh}
 use Rattle.account.specs.declared.Account.{Account}
 use Rattle.account.specs.declared.ClosingAmounts.{ClosingAmounts}
 use Rattle.account.specs.Refusals.{isOpen, highestNext, contentsRefused, openingNumber, repricingNumber, billingNumber, closingNumber}
-use Rattle.account.specs.Account.{freshAccount, noAmounts, billOf, openingReply, repricingReply, billingReply, closingReply}
+use Rattle.account.specs.Account.{freshAccount, noAmounts, scheduleOf, billOf, openingReply, repricingReply, billingReply, closingReply}
 use Rattle.account.proofs.Accepted.{Contents, opening-accepted, repricing-accepted, billing-accepted}
 use Rattle.records.specs.declared.Answer.{Answer}
 use Rattle.ledger.specs.Ledger.{Call, opening, repricing, billing, closing, answerOf, accountAfter}
@@ -53,8 +53,8 @@ pub record Step (a : Account) (x : Answer) (exportedWh deliveredWh : Period → 
 abbrev pub StepOf : Account → Call → Type 0
 StepOf a c =
     Step a (answerOf a c)
-    (λ p. cond (eqb (answerOf a c .number) 0) (exportedBy p c) 0)
-    (λ p. cond (eqb (answerOf a c .number) 0) (deliveredBy p c) 0)
+    (λ p. cond (eqb (answerOf a c .number) 0) (exportedBy p a c) 0)
+    (λ p. cond (eqb (answerOf a c .number) 0) (deliveredBy p a c) 0)
     (accountAfter a c)
 
 -- Without a bill, what the account held is in the closing's amounts or still there.
@@ -121,9 +121,9 @@ step a (billing m delivered received x) r =
     decided (billingNumber a m delivered received x)
     (λ e.
     let k = billing-accepted a m delivered received x (eqb-true _ _ e) in
-    let d : ByPeriod = byPeriod (sumOf fixedSchedule m x delivered) in
-    let g : ByPeriod = byPeriod (sumOf fixedSchedule m x received) in
-    let power : ℕ = demandPower fixedSchedule m x delivered in
+    let d : ByPeriod = byPeriod (sumOf (scheduleOf a) m x delivered) in
+    let g : ByPeriod = byPeriod (sumOf (scheduleOf a) m x received) in
+    let power : ℕ = demandPower (scheduleOf a) m x delivered in
     let s = bill-balanced (a .terms) (a .prices) (a .carried) (a .standing) m d g power in
     let credit = within-limits (a .prices) (k .account .holds .prices) .credit in
     let most = bill-held (a .terms) (a .prices) (a .carried) (a .standing) m d g power credit in
@@ -132,12 +132,12 @@ step a (billing m delivered received x) r =
       reached =
           record {
             fresh = λ f. cc (k .account .stage);
-            held = omega (arith, r .held, most, total-within fixedSchedule m x received (k .received-readings));
+            held = omega (arith, r .held, most, total-within (scheduleOf a) m x received (k .received-readings));
             next = omega (arith, k .next);
             contents = r .contents;
           };
-      exported = λ p. omega (arith, s .exported p, by-period-at p (sumOf fixedSchedule m x received), none-at p);
-      delivered = λ p. omega (arith, s .delivered p, by-period-at p (sumOf fixedSchedule m x delivered));
+      exported = λ p. omega (arith, s .exported p, by-period-at p (sumOf (scheduleOf a) m x received), none-at p);
+      delivered = λ p. omega (arith, s .delivered p, by-period-at p (sumOf (scheduleOf a) m x delivered));
       moved = s .moved;
       money = omega (arith, s .money);
       charged = s .charged;

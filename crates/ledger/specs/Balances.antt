@@ -6,12 +6,11 @@ use mathlib.Core.Bool.{cond}
 use mathlib.Core.List.{List, [], _∷_}
 use Prim.Native.Nat.{ℕ, _+_, _≤_, _<_}
 use lib.Dec.{eqb}
-use Rattle.hours.specs.Hours.{fixedSchedule}
 use Rattle.hours.specs.declared.ByPeriod.{ByPeriod}
 use Rattle.registers.specs.Registers.{sumOf}
 use Rattle.billing.specs.declared.Bill.{Bill}
 use Rattle.account.specs.declared.Account.{Account}
-use Rattle.account.specs.Account.{freshAccount}
+use Rattle.account.specs.Account.{freshAccount, scheduleOf}
 use Rattle.records.specs.declared.Answer.{Answer}
 use Rattle.ledger.specs.Ledger.{Call, opening, repricing, billing, closing, answerOf, accountAfter, answersOf, lastOf}
 
@@ -50,23 +49,23 @@ allPeriods f xs = billTotal Critical f xs + billTotal OnPeak f xs + billTotal Of
 abbrev pub forfeitedTotal : Period → List Answer → ℕ
 forfeitedTotal p xs = totalBy (λ x. amountOf p (x .bill .forfeited) + amountOf p (x .amounts .forfeited)) xs
 
--- Step 2 on the registers of one call: what was delivered, and what was received and so exported.
-abbrev pub deliveredBy : Period → Call → ℕ
-deliveredBy p (opening t l m) = 0
-deliveredBy p (repricing l) = 0
-deliveredBy p (billing m delivered received x) = sumOf fixedSchedule m x delivered (numberOf p)
-deliveredBy p closing = 0
+-- Step 2 on the registers of one call on an account: what was delivered, and what was received and so exported.
+abbrev pub deliveredBy : Period → Account → Call → ℕ
+deliveredBy p a (opening t l m) = 0
+deliveredBy p a (repricing l) = 0
+deliveredBy p a (billing m delivered received x) = sumOf (scheduleOf a) m x delivered (numberOf p)
+deliveredBy p a closing = 0
 
-abbrev pub exportedBy : Period → Call → ℕ
-exportedBy p (opening t l m) = 0
-exportedBy p (repricing l) = 0
-exportedBy p (billing m delivered received x) = sumOf fixedSchedule m x received (numberOf p)
-exportedBy p closing = 0
+abbrev pub exportedBy : Period → Account → Call → ℕ
+exportedBy p a (opening t l m) = 0
+exportedBy p a (repricing l) = 0
+exportedBy p a (billing m delivered received x) = sumOf (scheduleOf a) m x received (numberOf p)
+exportedBy p a closing = 0
 
 -- The same over a list, "of the bills answered 0".
-unfoldable pub registerTotal : (Call → ℕ) → Account → List Call → ℕ
+unfoldable pub registerTotal : (Account → Call → ℕ) → Account → List Call → ℕ
 registerTotal f a [] = 0
-registerTotal f a (c ∷ cs) = cond (eqb (answerOf a c .number) 0) (f c) 0 + registerTotal f (accountAfter a c) cs
+registerTotal f a (c ∷ cs) = cond (eqb (answerOf a c .number) 0) (f a c) 0 + registerTotal f (accountAfter a c) cs
 
 -- Each answer has a property.
 unfoldable pub Each : (Answer → Type 0) → List Answer → Type 0

@@ -3,6 +3,7 @@ use borrow.Author.Needs.{needs}
 use mathlib.Core.Path.{_≡_, sym, _∙_}
 use Rattle.account.specs.Refusals.{billingNumber}
 use Rattle.account.proofs.Accepted.{billing-accepted}
+use Rattle.account.proofs.Laws.{schedule-is}
 use Rattle.account.proofs.Tallied.{number-found, refused-reply, accepted-reply}
 use Rattle.account.proofs.bill_readings.Statement.{statement}
 use Rattle.account.proofs.bill_readings.Tie as tie
@@ -21,7 +22,7 @@ found c =
     _ _ _ _ _ _ _ _ _ _ _ _ _ _
     (c .before .before .before .before .before .before .before .before .before .before .is-fresh .ensures)
     (c .before .before .before .before .before .before .before .before .before .is-unusable .ensures)
-    (c .before .before .before .before .before .before .before .before .fixed-schedule .ensures)
+    (c .before .before .before .before .before .before .before .before .fixed-schedule .ensures ∙ sym (schedule-is _))
     (c .before .before .before .before .before .before .tally-of .ensures)
     (c .before .before .before .before .tally-of2 .ensures)
     (c .before .before .before .either .ensures)
@@ -70,7 +71,7 @@ returns-2 c =
     c .billed .ensures
     ∙ accepted-reply
     _ _ _ _ _ _ _ _ _
-    (c .before .before .before .before .before .before .before .before .before .before .fixed-schedule .ensures)
+    (c .before .before .before .before .before .before .before .before .before .before .fixed-schedule .ensures ∙ sym (schedule-is _))
     (c .before .before .before .before .before .before .before .before .tally-of .ensures)
     (c .before .before .before .before .before .before .tally-of2 .ensures)
     (found (c .before .before))
