@@ -10,7 +10,7 @@ use Rattle.calendar.proofs.Booleans.{and-both}
 use Rattle.account.specs.declared.Account.{Account}
 use Rattle.records.specs.Records.{recordLength, isCall}
 use Rattle.ledger.specs.declared.Answered.{Answered}
-use Rattle.ledger.specs.Ledger.{answerOf, accountAfter}
+use Rattle.balances.specs.Calls.{answerOf, accountAfter}
 use Rattle.ledger.specs.Encoding.{callOf, answeredOf}
 use Rattle.kozempil.specs.Interface.{isAccount, accountAt, isAnswered}
 

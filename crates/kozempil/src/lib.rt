@@ -8,7 +8,7 @@ ghost use Rattle.registers.specs.DayView.{viewOf};
 ghost use Rattle.account.specs.Account.{freshAccount};
 ghost use Rattle.records.specs.Records.{riderCode, classCode, yesCode};
 ghost use Rattle.records.specs.Rows.{rowOf};
-ghost use Rattle.ledger.specs.Ledger.{answerOf, accountAfter, answersOf, lastOf};
+ghost use Rattle.balances.specs.Calls.{answerOf, accountAfter, answersOf, lastOf};
 ghost use Rattle.ledger.specs.Encoding.{callOf, callsIn, rowsOf};
 ghost use Rattle.kozempil.specs.Interface.{stageCode, accountRow, isAccount, stageAt, accountAt, isAnswered, partNumbers};
 use account::Account;

@@ -15,13 +15,13 @@ use Rattle.account.specs.Account.{freshAccount}
 use Rattle.records.specs.Records.{recordLength, kindOf, deliveredCount, receivedCount, isCall}
 use Rattle.records.specs.Rows.{rowLength, rowOf}
 use Rattle.ledger.specs.declared.Step.{Step}
-use Rattle.ledger.specs.Ledger.{Call, answerOf, accountAfter, answersOf, lastOf}
+use Rattle.balances.specs.Calls.{Call, answerOf, accountAfter, answersOf, lastOf}
 use Rattle.ledger.specs.Encoding.{callOf, rowsOf, decode, callsIn, recordOf, deliveredOf, receivedOf, joined, AllFit}
 use Rattle.ledger.specs.Running.{stepOf}
 use Rattle.ledger.specs.DemandThree.{Holds, DemandThree}
-use Rattle.ledger.proofs.Balances.{balanced}
+use Rattle.balances.proofs.Balances.{balanced}
 use Rattle.ledger.proofs.Decoding.{decode-none, decode-stop, decode-next, record-length}
-use Rattle.ledger.proofs.Reachable.{reachable}
+use Rattle.balances.proofs.Reachable.{reachable}
 use Rattle.ledger.proofs.Roundtrip.{read-back}
 
 -- Two lists are written one after the other.

@@ -5,7 +5,7 @@ use Prim.Native.Nat.{ℕ}
 use borrow.Author.Tests.{ne-eqb}
 use lib.ListN.{getD}
 use Rattle.records.specs.Records.{termsAt, pricesAt}
-use Rattle.ledger.specs.Ledger.{Call, opening, repricing, billing, closing}
+use Rattle.balances.specs.Calls.{Call, opening, repricing, billing, closing}
 use Rattle.ledger.specs.Encoding.{callOf}
 
 module _ (w delivered received : List ℕ) where

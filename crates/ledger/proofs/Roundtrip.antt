@@ -9,7 +9,7 @@ use lib.ListN.{length, take, drop, length-append}
 use lib.Seq.{take-append-seam, drop-append-seam}
 use Rattle.records.specs.Records.{recordLength, deliveredCount, receivedCount, openingCodes, billingCodes, isCall}
 use Rattle.records.proofs.Laws.{rider-known, rider-back, class-known, class-back, yes-known, yes-back}
-use Rattle.ledger.specs.Ledger.{Call, opening, repricing, billing, closing}
+use Rattle.balances.specs.Calls.{Call, opening, repricing, billing, closing}
 use Rattle.ledger.specs.Encoding.{callOf, decode, callsIn, recordOf, deliveredOf, receivedOf, joined, Fits32, AllFit}
 
 -- The record of a call is a call, and with the call's registers that call.

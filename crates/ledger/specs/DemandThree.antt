@@ -7,9 +7,9 @@ use lib.Seq.{sets}
 use Rattle.account.specs.declared.Account.{Account}
 use Rattle.account.specs.Refusals.{cantArise}
 use Rattle.account.specs.Account.{freshAccount}
-use Rattle.ledger.specs.Ledger.{Call, answersOf, lastOf}
+use Rattle.balances.specs.Calls.{Call, answersOf, lastOf}
 use Rattle.ledger.specs.Encoding.{callsIn, recordOf, deliveredOf, receivedOf, joined, AllFit, rowsOf}
-use Rattle.ledger.specs.Balances.{Balanced}
+use Rattle.balances.specs.Balances.{Balanced}
 
 -- The last account and every answer are those of document 01's steps and table, folded over the calls alone from the fresh account; the
 -- balances hold; and the account is one that can arise. Rows are written one after the other from the front of the lent buffer, and what

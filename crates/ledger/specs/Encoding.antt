@@ -14,7 +14,7 @@ use Rattle.records.specs.Records.{recordLength, kindOf, riderCode, classCode, y
 use Rattle.records.specs.Records.{deliveredCount, receivedCount, isCall}
 use Rattle.records.specs.Rows.{rowOf}
 use Rattle.ledger.specs.declared.Answered.{Answered}
-use Rattle.ledger.specs.Ledger.{Call, opening, repricing, billing, closing, answerOf, accountAfter}
+use Rattle.balances.specs.Calls.{Call, opening, repricing, billing, closing, answerOf, accountAfter}
 
 -- The call of a record, with the readings of a billing.
 unfoldable pub callOf : List ℕ → List ℕ → List ℕ → Call

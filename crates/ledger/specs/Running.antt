@@ -5,7 +5,7 @@ use Rattle.account.specs.declared.Account.{Account}
 use Rattle.account.specs.Account.{noAmounts}
 use Rattle.records.specs.declared.Answer.{Answer}
 use Rattle.ledger.specs.declared.Step.{Step}
-use Rattle.ledger.specs.Ledger.{Call, answerOf, accountAfter}
+use Rattle.balances.specs.Calls.{Call, answerOf, accountAfter}
 
 -- An answer that is a number alone.
 abbrev pub plainAnswer : ℕ → Answer

@@ -3,7 +3,7 @@ ghost use mathlib.Core.Path.{_≡_};
 ghost use mathlib.Core.Bool.{true};
 ghost use lib.ListN.{length};
 ghost use Rattle.records.specs.Records.{recordLength, isCall};
-ghost use Rattle.ledger.specs.Ledger.{opening, repricing, billing, closing};
+ghost use Rattle.balances.specs.Calls.{opening, repricing, billing, closing};
 ghost use Rattle.ledger.specs.Encoding.{callOf, answeredOf};
 ghost use Rattle.ledger.specs.DemandThree.{DemandThree};
 ghost use Rattle.ledger.specs.Running.{plainAnswer, stepOf};

@@ -1,6 +1,6 @@
 -- `ledger::answer_repricing` hands on the account's reply.
 use borrow.Author.Needs.{needs}
-use Rattle.ledger.specs.Ledger.{answerOf, accountAfter}
+use Rattle.balances.specs.Calls.{answerOf, accountAfter}
 use Rattle.ledger.specs.Running.{stepOf}
 use Rattle.ledger.proofs.answer_repricing.Statement.{statement}
 use Rattle.ledger.proofs.answer_repricing.Tie as tie

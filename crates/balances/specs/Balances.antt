@@ -12,7 +12,7 @@ use Rattle.billing.specs.declared.Bill.{Bill}
 use Rattle.account.specs.declared.Account.{Account}
 use Rattle.account.specs.Account.{freshAccount, scheduleOf}
 use Rattle.records.specs.declared.Answer.{Answer}
-use Rattle.ledger.specs.Ledger.{Call, opening, repricing, billing, closing, answerOf, accountAfter, answersOf, lastOf}
+use Rattle.balances.specs.Calls.{Call, opening, repricing, billing, closing, answerOf, accountAfter, answersOf, lastOf}
 
 -- The four periods, and the amount of one of them.
 pub data Period : Type 0 where

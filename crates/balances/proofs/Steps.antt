@@ -20,10 +20,10 @@ use Rattle.account.specs.Refusals.{isOpen, highestNext, contentsRefused, openin
 use Rattle.account.specs.Account.{freshAccount, noAmounts, scheduleOf, billOf, openingReply, repricingReply, billingReply, closingReply}
 use Rattle.account.proofs.Accepted.{Contents, opening-accepted, repricing-accepted, billing-accepted}
 use Rattle.records.specs.declared.Answer.{Answer}
-use Rattle.ledger.specs.Ledger.{Call, opening, repricing, billing, closing, answerOf, accountAfter}
-use Rattle.ledger.specs.Balances.{Period, Critical, OnPeak, OffPeak, Discount, amountOf, deliveredBy, exportedBy, ChargedLast}
-use Rattle.ledger.proofs.Bills.{by-period-at, none-at, bill-balanced, bill-held}
-use Rattle.ledger.proofs.Readings.{monthMost, total-within}
+use Rattle.balances.specs.Calls.{Call, opening, repricing, billing, closing, answerOf, accountAfter}
+use Rattle.balances.specs.Balances.{Period, Critical, OnPeak, OffPeak, Discount, amountOf, deliveredBy, exportedBy, ChargedLast}
+use Rattle.balances.proofs.Bills.{by-period-at, none-at, bill-balanced, bill-held}
+use Rattle.balances.proofs.Readings.{monthMost, total-within}
 
 -- What an account has that calls reach from the fresh one. What it holds came month by month, a cent at most for a Wh.
 pub record Reached (a : Account) : Type 0 where

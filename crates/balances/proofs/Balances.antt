@@ -5,11 +5,11 @@ use Prim.Native.Nat.{_+_}
 use native.Mathlib.Omega.{arith}
 use Rattle.account.specs.declared.Account.{Account}
 use Rattle.account.specs.Account.{freshAccount}
-use Rattle.ledger.specs.Ledger.{Call, accountAfter, answersOf, lastOf}
-use Rattle.ledger.specs.Balances.{Period, amountOf, totalBy, billTotal, allPeriods, forfeitedTotal, deliveredBy, exportedBy, registerTotal}
-use Rattle.ledger.specs.Balances.{Each, ChargedLast, Balanced}
-use Rattle.ledger.proofs.Bills.{none-at}
-use Rattle.ledger.proofs.Steps.{Reached, fresh-reached, StepOf, step}
+use Rattle.balances.specs.Calls.{Call, accountAfter, answersOf, lastOf}
+use Rattle.balances.specs.Balances.{Period, amountOf, totalBy, billTotal, allPeriods, forfeitedTotal, deliveredBy, exportedBy, registerTotal}
+use Rattle.balances.specs.Balances.{Each, ChargedLast, Balanced}
+use Rattle.balances.proofs.Bills.{none-at}
+use Rattle.balances.proofs.Steps.{Reached, fresh-reached, StepOf, step}
 
 -- The balances of a list from account a.
 record BalancedFrom (a : Account) (cs : List Call) : Type 0 where

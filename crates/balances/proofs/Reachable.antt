@@ -11,8 +11,8 @@ use Rattle.billing.proofs.Limits.{none-over}
 use Rattle.account.specs.declared.Account.{Account}
 use Rattle.account.specs.Account.{freshAccount}
 use Rattle.account.specs.Refusals.{cantArise, highestNext}
-use Rattle.ledger.specs.Ledger.{Call, accountAfter, lastOf}
-use Rattle.ledger.proofs.Steps.{Reached, fresh-reached, step}
+use Rattle.balances.specs.Calls.{Call, accountAfter, lastOf}
+use Rattle.balances.proofs.Steps.{Reached, fresh-reached, step}
 
 reached-from : (a : Account) (cs : List Call) → Reached a → Reached (lastOf a cs)
 unfolding lastOf

@@ -17,7 +17,7 @@ use Rattle.billing.specs.Billing.{none, each, keptBy, nettedOf, paidOf, billFro
 use Rattle.billing.specs.declared.Bill.{Bill}
 use Rattle.billing.specs.declared.Netted.{Netted}
 use Rattle.billing.proofs.Laws.{OwnSpent, carried-sums, unspent-sums, credit-sums, need-sums, own-spent}
-use Rattle.ledger.specs.Balances.{Period, Critical, OnPeak, OffPeak, Discount, numberOf, amountOf}
+use Rattle.balances.specs.Balances.{Period, Critical, OnPeak, OffPeak, Discount, numberOf, amountOf}
 
 -- Laws of the four periods, said of one.
 pub by-period-at : (p : Period) (f : ℕ → ℕ) → amountOf p (byPeriod f) ≡ f (numberOf p)

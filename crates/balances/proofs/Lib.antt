@@ -1,0 +1,5 @@
+pub mod Balances
+mod Bills
+pub mod Reachable
+mod Readings
+mod Steps
