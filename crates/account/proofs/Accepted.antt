@@ -14,12 +14,12 @@ use Rattle.tariff.specs.declared.Terms.{Terms}
 use Rattle.tariff.specs.declared.PriceList.{PriceList}
 use Rattle.tariff.specs.Tariff.{someOver, pricesRefused, capacityRefused, bridgeRefused}
 use Rattle.billing.specs.Billing.{carriedLimit, standingLimit, amountsOf}
-use Rattle.refusals.specs.Table.{openingRow, repricingRow, billingRow, closingRow}
+use Rattle.refusals.specs.Table.{openingRow, repricingRow, billingRow}
 use Rattle.account.specs.declared.Stage.{Stage}
 use Rattle.account.specs.declared.Stage.the-variants.{Fresh, Open, Closed}
 use Rattle.account.specs.declared.Account.{Account}
 use Rattle.account.specs.Refusals.{isFresh, isOpen, isClosed, highestNext, contentsRefused, cantArise, unusable}
-use Rattle.account.specs.Refusals.{openingNumber, repricingNumber, billingNumber, closingNumber}
+use Rattle.account.specs.Refusals.{openingNumber, repricingNumber, billingNumber}
 
 -- A row that would answer a number doesn't apply, and the rows after it answer 0.
 pass : (b : Bool) (n rest : ℕ) → cond b (suc n) rest ≡ 0 → (b ≡ false) × (rest ≡ 0)
@@ -57,6 +57,10 @@ contents t l e =
     let (front, bridge) = or-neither (pricesRefused l || capacityRefused t) (bridgeRefused t) e in
     let (prices, capacity) = or-neither (pricesRefused l) (capacityRefused t) front in
     record { prices = prices; capacity = capacity; bridge = bridge }
+
+pub contents-accepted : (t : Terms) (l : PriceList) → Contents t l → contentsRefused t l ≡ false
+unfolding contentsRefused
+contents-accepted t l k = rw (k .prices, k .capacity, k .bridge)
 
 -- An account that rows 1 and 3 don't refuse is open, can arise, and holds what an opening accepts.
 pub record Usable (a : Account) : Type 0 where
@@ -102,19 +106,14 @@ opening-accepted a t l m e =
       month = ltb-false _ _ month;
     }
 
--- An accepted repricing, and an accepted closing.
-pub repricing-accepted : (a : Account) (l : PriceList) → repricingNumber a l ≡ 0 → Usable a × (pricesRefused l ≡ false)
+-- An accepted repricing: the new price list is one that an opening accepts beside the account's terms.
+pub repricing-accepted : (a : Account) (l : PriceList) → repricingNumber a l ≡ 0 → Usable a × Contents (a .terms) l
 unfolding repricingNumber repricingRow
 repricing-accepted a l e =
     let (f, e3) = pass (isFresh (a .stage)) 0 _ e in
     let (u, e4) = pass (unusable a) 2 _ e3 in
-    (usable a f u, pass (pricesRefused l) 3 0 e4 .0)
-
-pub closing-accepted : (a : Account) → closingNumber a ≡ 0 → Usable a
-unfolding closingNumber closingRow
-closing-accepted a e =
-    let (f, e3) = pass (isFresh (a .stage)) 0 _ e in
-    usable a f (pass (unusable a) 2 0 e3 .0)
+    let k : Usable a = usable a f u in
+    (k, record { prices = pass (pricesRefused l) 3 0 e4 .0; capacity = k .holds .capacity; bridge = k .holds .bridge })
 
 -- An accepted billing.
 pub record BillingAccepted (a : Account) (m : ℕ) (delivered received : List ℕ) (x : ℕ) : Type 0 where

@@ -6,9 +6,10 @@ use Prim.Native.Nat.{ℕ, _≤_}
 use native.Mathlib.Omega.{arith}
 use borrow.Author.Tests.{ne-eqb}
 use Rattle.hours.specs.CriticalDays.{criticalRefused}
-use Rattle.hours.specs.Hours.{byPeriod}
+use Rattle.hours.specs.Hours.{fixedSchedule, byPeriod}
 use Rattle.registers.specs.Registers.{sumOf, demandPower, lengthRefused, readingRefused, tallyOf}
-use Rattle.registers.proofs.Laws.{tally-length, tally-right, sum-within, power-within}
+use Rattle.registers.proofs.Laws.{tally-length, tally-right, power-within}
+use Rattle.registers.proofs.Totals.{total-within}
 use Rattle.tariff.proofs.Laws.{nameplate-within}
 use Rattle.billing.specs.Billing.{billOrNone, noBill}
 use Rattle.billing.specs.declared.Bill.{Bill}
@@ -23,6 +24,11 @@ use Rattle.account.specs.Refusals.{isFresh, unusable, billingNumber}
 use Rattle.account.specs.Account.{scheduleOf, billOf, billingReply}
 use Rattle.account.specs.Tallies.{replyFrom}
 use Rattle.account.proofs.Accepted.{BillingAccepted, billing-accepted}
+
+-- The hours that an account is billed by.
+pub schedule-is : (a : Account) → scheduleOf a ≡ fixedSchedule
+unfolding scheduleOf
+schedule-is a = refl
 
 module _ (a : Account) (m : ℕ) (delivered received : List ℕ) (x : ℕ) where
   pub number-is :
@@ -54,8 +60,8 @@ module _ (a : Account) (m : ℕ) (delivered received : List ℕ) (x : ℕ) where
   unfolding billOrNone billOf
   bill-is e =
       let k : BillingAccepted a m delivered received x = billing-accepted a m delivered received x e in
-      let d : (p : ℕ) → sumOf (scheduleOf a) m x delivered p ≤ 2976000000 = sum-within (scheduleOf a) m x delivered (k .delivered-readings) in
-      let r : (p : ℕ) → sumOf (scheduleOf a) m x received p ≤ 2976000000 = sum-within (scheduleOf a) m x received (k .received-readings) in
+      let d = total-within (scheduleOf a) m x delivered (k .delivered-readings) in
+      let r = total-within (scheduleOf a) m x received (k .received-readings) in
       rw (
         tally-right (scheduleOf a) m x delivered (k .delivered-length),
         tally-right (scheduleOf a) m x received (k .received-length),
@@ -67,8 +73,8 @@ module _ (a : Account) (m : ℕ) (delivered received : List ℕ) (x : ℕ) where
               prices = k .account .holds .prices;
               nameplate = omega (arith, nameplate-within (a .terms) (k .account .holds .capacity) .most);
               carried-fits = at-most _ _ (k .account .possible .carried);
-              delivered-fits = record { critical = omega (arith, d 0); onpeak = omega (arith, d 1); offpeak = omega (arith, d 2); discount = omega (arith, d 3) };
-              exported-fits = record { critical = omega (arith, r 0); onpeak = omega (arith, r 1); offpeak = omega (arith, r 2); discount = omega (arith, r 3) };
+              delivered-fits = record { critical = omega (arith, d); onpeak = omega (arith, d); offpeak = omega (arith, d); discount = omega (arith, d) };
+              exported-fits = record { critical = omega (arith, r); onpeak = omega (arith, r); offpeak = omega (arith, r); discount = omega (arith, r) };
               power-fits = omega (arith, power-within (scheduleOf a) m x delivered (k .delivered-readings));
               standing-fits = k .account .possible .standing;
             }),

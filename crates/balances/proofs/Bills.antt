@@ -1,5 +1,6 @@
 -- A bill neither makes nor loses a watt-hour or a cent: each of its steps splits an amount in two, and the laws of the steps add up.
 use mathlib.Core.Path.{_≡_, refl}
+use mathlib.Core.Bool.{false}
 use Prim.Native.Nat.{ℕ, _+_, _≤_, _<_}
 use native.Mathlib.Omega.{arith}
 use Rattle.hours.specs.Hours.{byPeriod}
@@ -10,7 +11,7 @@ use Rattle.sharing.proofs.Moves.{Sums}
 use Rattle.sharing.proofs.Laws.{spent, met, conserved, dear-spent}
 use Rattle.tariff.specs.declared.Terms.{Terms}
 use Rattle.tariff.specs.declared.PriceList.{PriceList}
-use Rattle.tariff.specs.Tariff.{priceLimit}
+use Rattle.tariff.specs.Tariff.{pricesRefused}
 use Rattle.charges.specs.Charges.{totalOf}
 use Rattle.charges.proofs.Laws.{settled, granted-le}
 use Rattle.billing.specs.Billing.{none, each, keptBy, nettedOf, paidOf, billFrom}
@@ -106,7 +107,7 @@ module _ (t : Terms) (l : PriceList) (carried : ByPeriod) (standing m : ℕ) (de
       }
 
   -- A bill adds at most the month's export to what is carried and stands, since a Wh that is paid grants at most a cent.
-  pub bill-held : l .credit ≤ priceLimit →
+  pub bill-held : pricesRefused l ≡ false →
       totalOf (billFrom t l carried standing m delivered exported power .left)
       + billFrom t l carried standing m delivered exported power .charges .standing
       ≤ totalOf carried + standing + totalOf exported

@@ -1,5 +1,4 @@
 pub mod Balances
 mod Bills
 pub mod Reachable
-mod Readings
 mod Steps

@@ -8,9 +8,9 @@ use lib.Dec.{eqb}
 use Rattle.hours.specs.Hours.{byPeriod}
 use Rattle.hours.specs.declared.ByPeriod.{ByPeriod}
 use Rattle.registers.specs.Registers.{sumOf, demandPower}
+use Rattle.registers.proofs.Totals.{monthMost, total-within}
 use Rattle.tariff.specs.declared.Terms.{Terms}
 use Rattle.tariff.specs.declared.PriceList.{PriceList}
-use Rattle.tariff.proofs.Laws.{within-limits}
 use Rattle.charges.specs.Charges.{totalOf}
 use Rattle.billing.specs.Billing.{noBill}
 use Rattle.account.specs.declared.Stage.the-variants.{Fresh}
@@ -18,12 +18,11 @@ use Rattle.account.specs.declared.Account.{Account}
 use Rattle.account.specs.declared.ClosingAmounts.{ClosingAmounts}
 use Rattle.account.specs.Refusals.{isOpen, highestNext, contentsRefused, openingNumber, repricingNumber, billingNumber, closingNumber}
 use Rattle.account.specs.Account.{freshAccount, noAmounts, scheduleOf, billOf, openingReply, repricingReply, billingReply, closingReply}
-use Rattle.account.proofs.Accepted.{Contents, opening-accepted, repricing-accepted, billing-accepted}
+use Rattle.account.proofs.Accepted.{contents-accepted, opening-accepted, repricing-accepted, billing-accepted}
 use Rattle.records.specs.declared.Answer.{Answer}
 use Rattle.balances.specs.Calls.{Call, opening, repricing, billing, closing, answerOf, accountAfter}
 use Rattle.balances.specs.Balances.{Period, Critical, OnPeak, OffPeak, Discount, amountOf, deliveredBy, exportedBy, ChargedLast}
 use Rattle.balances.proofs.Bills.{by-period-at, none-at, bill-balanced, bill-held}
-use Rattle.balances.proofs.Readings.{monthMost, total-within}
 
 -- What an account has that calls reach from the fresh one. What it holds came month by month, a cent at most for a Wh.
 pub record Reached (a : Account) : Type 0 where
@@ -81,10 +80,6 @@ amount-le OnPeak a = omega arith
 amount-le OffPeak a = omega arith
 amount-le Discount a = omega arith
 
-accepted-contents : (t : Terms) (l : PriceList) → Contents t l → contentsRefused t l ≡ false
-unfolding contentsRefused
-accepted-contents t l k = rw (k .prices, k .capacity, k .bridge)
-
 -- A call is accepted or refused by its number.
 decided : {A : Type 0} (n : ℕ) → (eqb n 0 ≡ true → A) → (eqb n 0 ≡ false → A) → A
 decided {A} n accepted declined = by (eqb n 0) refl
@@ -102,18 +97,17 @@ step a (opening t l m) r =
     let empty = r .fresh (k .stage) in
     rw e
     (unbilled
-    (record { fresh = λ f. refl; held = omega arith; next = omega (arith, k .month); contents = accepted-contents t l (k .holds) })
+    (record { fresh = λ f. refl; held = omega arith; next = omega (arith, k .month); contents = contents-accepted t l (k .holds) })
     (λ p. omega (arith, amount-le p (a .carried), none-at p))
     (omega arith)))
     (λ e. rw e (refused r))
 step a (repricing l) r =
     decided (repricingNumber a l)
     (λ e.
-    let (k, prices) = repricing-accepted a l (eqb-true _ _ e) in
-    let holds : Contents (a .terms) l = record { prices = prices; capacity = k .holds .capacity; bridge = k .holds .bridge } in
+    let (k, holds) = repricing-accepted a l (eqb-true _ _ e) in
     rw e
     (unbilled
-    (record { fresh = r .fresh; held = r .held; next = r .next; contents = rw (k .stage) (accepted-contents (a .terms) l holds) })
+    (record { fresh = r .fresh; held = r .held; next = r .next; contents = rw (k .stage) (contents-accepted (a .terms) l holds) })
     (λ p. omega (arith, none-at p))
     (omega arith)))
     (λ e. rw e (refused r))
@@ -125,8 +119,7 @@ step a (billing m delivered received x) r =
     let g : ByPeriod = byPeriod (sumOf (scheduleOf a) m x received) in
     let power : ℕ = demandPower (scheduleOf a) m x delivered in
     let s = bill-balanced (a .terms) (a .prices) (a .carried) (a .standing) m d g power in
-    let credit = within-limits (a .prices) (k .account .holds .prices) .credit in
-    let most = bill-held (a .terms) (a .prices) (a .carried) (a .standing) m d g power credit in
+    let most = bill-held (a .terms) (a .prices) (a .carried) (a .standing) m d g power (k .account .holds .prices) in
     rw e
     (record {
       reached =

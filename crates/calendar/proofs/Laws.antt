@@ -12,6 +12,7 @@ use lib.ListN.{getD}
 use Rattle.calendar.specs.Calendar.{monthNumber, yearOf, monthOfYear, isLeap, commonDays, leapDay, daysIn, firstWeekday, weekdayOf, dayLength, quarterOf}
 use Rattle.calendar.specs.Calendar.{readingsThrough, monthLength}
 use Rattle.calendar.proofs.Below.{below}
+use Rattle.calendar.proofs.Lengths.{through-is}
 
 place : (m : ℕ) → (m % 12 + 1) - 1 ≡ m % 12
 place m = omega arith
@@ -26,9 +27,6 @@ leapDay-le : (m : ℕ) → leapDay m ≤ cond (eqb (m % 12 + 1) 2) 1 0
 unfolding leapDay
 leapDay-le m = both-le (eqb (m % 12 + 1) 2) (isLeap (yearOf m))
 
-commonDays-ge : (k : ℕ) → k < 12 → 28 ≤ getD commonDays k 0
-commonDays-ge k h = leb→le _ _ (below (λ k. leb 28 (getD commonDays k 0)) 12 tt k h)
-
 commonDays-le : (k : ℕ) → k < 12 → getD commonDays k 0 + cond (eqb (k + 1) 2) 1 0 ≤ 31
 commonDays-le k h = leb→le _ _ (below (λ k. leb (getD commonDays k 0 + cond (eqb (k + 1) 2) 1 0) 31) 12 tt k h)
 
@@ -41,9 +39,6 @@ pub daysIn-is : (m : ℕ) → daysIn m ≡ getD commonDays (m % 12) 0 + leapDay 
 unfolding daysIn
 daysIn-is m = rw (place m)
 
-pub daysIn-ge : (m : ℕ) → 28 ≤ daysIn m
-daysIn-ge m = omega (arith, daysIn-is m, commonDays-ge (m % 12) (omega arith))
-
 pub daysIn-le : (m : ℕ) → daysIn m ≤ 31
 daysIn-le m = omega (arith, daysIn-is m, commonDays-le (m % 12) (omega arith), leapDay-le m)
 
@@ -52,11 +47,7 @@ unfolding firstWeekday
 firstWeekday-lt zero = omega arith
 firstWeekday-lt (suc m) = omega arith
 
--- A day has at most 100 readings, each of one of its 96 quarters.
-pub dayLength-le : (m d : ℕ) → dayLength m d ≤ 100
-unfolding dayLength
-dayLength-le m d = omega arith
-
+-- Each reading of a day is of one of its 96 quarters.
 pub quarterOf-lt : (m d j : ℕ) → j < dayLength m d → quarterOf m d j < 96
 unfolding dayLength quarterOf
 quarterOf-lt m d j h = h
@@ -66,6 +57,10 @@ pub through-none : (m : ℕ) → readingsThrough m 0 ≡ 0
 unfolding readingsThrough
 through-none m = refl
 
+pub through-next : (m n : ℕ) → readingsThrough m (suc n) ≡ readingsThrough m n + dayLength m (suc n)
+unfolding readingsThrough
+through-next m n = refl
+
 pub through-more : (m n : ℕ) → readingsThrough m (n + 1) ≡ readingsThrough m n + dayLength m (n + 1)
 unfolding readingsThrough
 through-more m n = simp add-one
@@ -74,12 +69,6 @@ pub through-mono : (m n k : ℕ) → n ≤ k → readingsThrough m n ≤ reading
 unfolding readingsThrough
 through-mono m n k h =
     le-ind (λ k. readingsThrough m n ≤ readingsThrough m k) (le-refl _) (λ k l ih. omega arith) k h
-
--- The first n days have n times 96 readings.
-pub through-is : (m n : ℕ) → readingsThrough m n ≡ 96 * n
-unfolding readingsThrough dayLength
-through-is m zero = refl
-through-is m (suc n) = omega (arith, through-is m n)
 
 pub monthLength-is : (m : ℕ) → monthLength m ≡ readingsThrough m (daysIn m)
 unfolding monthLength

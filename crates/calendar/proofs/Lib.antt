@@ -1,4 +1,5 @@
 pub mod Below
 pub mod Booleans
 pub mod Laws
+mod Lengths
 pub mod Weekday

@@ -8,7 +8,7 @@ use native.Mathlib.Omega.{arith}
 use lib.Dec.{eqb}
 use lib.ListN.{length}
 use Rattle.calendar.specs.Calendar.{daysIn, dayLength, readingsThrough, monthLength}
-use Rattle.calendar.proofs.Laws.{daysIn-le, dayLength-le, through-none, through-more, through-mono, monthLength-is, monthLength-le}
+use Rattle.calendar.proofs.Laws.{daysIn-le, through-none, through-more, through-mono, monthLength-is, monthLength-le}
 use Rattle.hours.specs.Hours.{critical, onPeak, offPeak, discount, periodOf}
 use Rattle.registers.specs.declared.Count.{Count}
 use Rattle.registers.specs.declared.Tally.{Tally}

@@ -1,4 +1,4 @@
--- What callers know of the sums, the demand and the limit of readings. They cite these laws and never open the definitions.
+-- What callers know of the sums, the demand and the limit of readings: they cite these laws and `Totals`, and open no definition.
 use mathlib.Core.Path.{_≡_, refl, ap, _∙_, sym}
 use mathlib.Core.Bool.{Bool, true, false, cond, _||_}
 use mathlib.Core.List.{List}
@@ -12,7 +12,7 @@ use lib.Dec.{eqb, leb, ltb}
 use lib.ListN.{length, getD, List·getD-eq-default}
 use Rattle.calendar.specs.Calendar.{daysIn, dayLength, readingsThrough, monthLength}
 use Rattle.calendar.proofs.Booleans.{or-neither}
-use Rattle.calendar.proofs.Laws.{monthLength-is, monthLength-le}
+use Rattle.calendar.proofs.Laws.{through-next}
 use Rattle.hours.specs.Hours.{isPeak, periodOf, byPeriod}
 use Rattle.registers.specs.declared.Tally.{Tally}
 use Rattle.registers.specs.Registers.{reading, daySum, daysSum, sumOf, dayPeak, daysPeak, demandPower, readingLimit, someAbove, readingRefused, lengthRefused, tallyOf}
@@ -82,9 +82,9 @@ module _ (schedule : List ℕ) (m x : ℕ) (r : List ℕ) (bound : ℕ) (within 
   sum-le p n (suc j) = omega (arith, sum-le p n j, part-le (eqb (periodOf schedule m x (suc n) j) p) (reading r (readingsThrough m n + j)) bound (within _))
 
   pub days-sum-le : (p n : ℕ) → daysSum schedule m x r p n ≤ readingsThrough m n * bound
-  unfolding daysSum readingsThrough
+  unfolding daysSum
   days-sum-le p zero = omega arith
-  days-sum-le p (suc n) = omega (arith, days-sum-le p n, sum-le p n (dayLength m (suc n)))
+  days-sum-le p (suc n) = rw (through-next m n) (omega (arith, days-sum-le p n, sum-le p n (dayLength m (suc n))))
 
 -- Refusal 8, from a length that was compared.
 pub wrong-length : (m : ℕ) (r : List ℕ) {n : ℕ} → n ≡ monthLength m → (length r ≡ n → ⊥) → lengthRefused m r ≡ true
@@ -114,17 +114,7 @@ readings-within r e i = by (leb (length r) i) refl
     by true past = rw (reading-is r i, List·getD-eq-default r 0 (leb-true _ _ past)) (omega arith)
     by false reached = within-first r (length r) i e (leb-false _ _ reached)
 
--- So a month's sum and the demand's power have bounds.
-pub sum-within : (schedule : List ℕ) (m x : ℕ) (r : List ℕ) → readingRefused r ≡ false → (p : ℕ) → sumOf schedule m x r p ≤ 2976000000
-unfolding sumOf
-sum-within schedule m x r e p =
-    omega (
-      arith,
-      days-sum-le schedule m x r readingLimit (readings-within r e) p (daysIn m),
-      monthLength-is m,
-      monthLength-le m,
-    )
-
+-- So the demand's power has a bound (for the sums see `Totals`).
 module _ (schedule : List ℕ) (m x : ℕ) (r : List ℕ) (bound : ℕ) (within : (i : ℕ) → reading r i ≤ bound) where
   day-peak-le : (n j : ℕ) → dayPeak schedule m x r n j ≤ bound
   unfolding dayPeak

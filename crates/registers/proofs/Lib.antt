@@ -1,3 +1,4 @@
 mod Counting
 pub mod Laws
+pub mod Totals
 pub mod View

@@ -3,8 +3,7 @@ use borrow.Author.Needs.{needs}
 use mathlib.Core.Path.{_≡_, sym, _∙_}
 use Rattle.account.specs.Refusals.{billingNumber}
 use Rattle.account.proofs.Accepted.{billing-accepted}
-use Rattle.account.proofs.Laws.{schedule-is}
-use Rattle.account.proofs.Tallied.{number-found, refused-reply, accepted-reply}
+use Rattle.account.proofs.Tallied.{schedule-is, number-found, refused-reply, accepted-reply}
 use Rattle.account.proofs.bill_readings.Statement.{statement}
 use Rattle.account.proofs.bill_readings.Tie as tie
 

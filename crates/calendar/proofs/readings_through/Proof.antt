@@ -1,7 +1,7 @@
 -- `calendar::readings_through` multiplies, since each day has as many readings.
 use borrow.Author.Needs.{needs}
 use mathlib.Core.Path.{sym}
-use Rattle.calendar.proofs.Laws.{through-is}
+use Rattle.calendar.proofs.Lengths.{through-is}
 use Rattle.calendar.proofs.readings_through.Statement.{statement}
 use Rattle.calendar.proofs.readings_through.Tie as tie
 

@@ -7,17 +7,20 @@ use native.Mathlib.Omega.{arith}
 use borrow.Author.Tests.{ne-eqb}
 use lib.Dec.{eqb}
 use Rattle.calendar.specs.Calendar.{daysIn, dayLength, readingsThrough}
-use Rattle.calendar.proofs.Laws.{monthLength-is, monthLength-le}
-use Rattle.hours.specs.Hours.{periodOf, byPeriod}
+use Rattle.calendar.proofs.Laws.{through-next, monthLength-is, monthLength-le}
+use Rattle.hours.specs.Hours.{critical, onPeak, offPeak, discount, periodOf}
 use Rattle.registers.specs.Registers.{reading, daySum, daysSum, sumOf, readingLimit, readingRefused}
 use Rattle.registers.proofs.Laws.{readings-within}
-use Rattle.charges.specs.Charges.{totalOf}
 
 -- The most Wh of a month's register: 2,976 readings at the limit.
 abbrev pub monthMost : ℕ
 monthMost = 2976 * readingLimit
 
-one-period : (q v bound : ℕ) → v ≤ bound → totalOf (byPeriod (λ p. cond (eqb q p) v 0)) ≤ bound
+-- The sum over the four periods of what each has.
+abbrev fourOf : (ℕ → ℕ) → ℕ
+fourOf f = f critical + f onPeak + f offPeak + f discount
+
+one-period : (q v bound : ℕ) → v ≤ bound → fourOf (λ p. cond (eqb q p) v 0) ≤ bound
 one-period zero v bound h = omega arith
 one-period (suc zero) v bound h = omega arith
 one-period (suc (suc zero)) v bound h = omega arith
@@ -27,19 +30,18 @@ one-period (suc (suc (suc (suc q)))) v bound h =
     rw (ne-eqb n 0 (omega arith), ne-eqb n 1 (omega arith), ne-eqb n 2 (omega arith), ne-eqb n 3 (omega arith)) (omega arith)
 
 module _ (schedule : List ℕ) (m x : ℕ) (r : List ℕ) (bound : ℕ) (within : (i : ℕ) → reading r i ≤ bound) where
-  day-total-le : (n j : ℕ) → totalOf (byPeriod (λ p. daySum schedule m x r p n j)) ≤ j * bound
+  day-total-le : (n j : ℕ) → fourOf (λ p. daySum schedule m x r p n j) ≤ j * bound
   unfolding daySum
   day-total-le n zero = omega arith
   day-total-le n (suc j) =
       omega (arith, day-total-le n j, one-period (periodOf schedule m x (suc n) j) (reading r (readingsThrough m n + j)) bound (within _))
 
-  days-total-le : (n : ℕ) → totalOf (byPeriod (λ p. daysSum schedule m x r p n)) ≤ readingsThrough m n * bound
-  unfolding daysSum readingsThrough
+  days-total-le : (n : ℕ) → fourOf (λ p. daysSum schedule m x r p n) ≤ readingsThrough m n * bound
+  unfolding daysSum
   days-total-le zero = omega arith
-  days-total-le (suc n) = omega (arith, days-total-le n, day-total-le n (dayLength m (suc n)))
+  days-total-le (suc n) = rw (through-next m n) (omega (arith, days-total-le n, day-total-le n (dayLength m (suc n))))
 
-pub total-within : (schedule : List ℕ) (m x : ℕ) (r : List ℕ) → readingRefused r ≡ false
-    → totalOf (byPeriod (sumOf schedule m x r)) ≤ monthMost
+pub total-within : (schedule : List ℕ) (m x : ℕ) (r : List ℕ) → readingRefused r ≡ false → fourOf (sumOf schedule m x r) ≤ monthMost
 unfolding sumOf
 total-within schedule m x r e =
     omega (
