@@ -1,9 +1,12 @@
-"""After `rt ci`: each wrong program of crates/*/must-fail is refused for the fact that it names, and each public function has two of them.
+"""After `rt ci`: holds the log of every must-fail edit to what the edit says, and counts the wrong programs of each public function.
 
-An edit file has one wrong program or more, each under a line `# NAME, refused at PLACE: FACT`. The place is a function, and the fact a part of its
-proof; or the place is a file of laws, and the fact a law. Several wrong programs share a file, and so one check, only where no two of them touch
-the same function: a function is proved against contracts alone, so that none of them can be what breaks another's fact. A wrong program counts
-for a public function where it touches that function, or one of its crate that the function calls, or is refused there.
+An edit file has one wrong program or more, each under a line `# NAME, refused at PLACE: FACT`. The place is a function and the fact a part of its
+proof, or the place is a file of laws and the fact a law. In the log the proof of that fact must fail by itself. (That the fact is false, and not
+only proved otherwise, no log tells: the edit's reader judges it.)
+
+Wrong programs share a file, and so a check, only where each changes bodies of functions and constants alone, and no two reach the same function:
+a function is proved against contracts, so that none of them can be what breaks another's fact. A public function has at least two that reach it
+or a function of its crate that it calls.
 """
 import glob
 import os
@@ -11,60 +14,99 @@ import re
 import sys
 
 HEAD = re.compile(r"^# (\w+), refused at ([\w:]+): ([\w-]+)$")
-ITEM = re.compile(r"^\s*(?:pub )?(?:extern \"C\" )?(fn|const) (\w+)", re.M)
-PUBLIC = re.compile(r"^\s*pub (?:extern \"C\" )?fn (\w+)", re.M)
-NOT_ADMITTED = "was not admitted (it has holes or undetermined implicits, or was rejected), so this cannot be checked"
+FUNCTION = re.compile(r'^( *)(?:pub )?(?:extern "C" )?fn (\w+)(?:.*\n)*?\1\{\n((?:.*\n)*?)\1\}\n', re.M)
+CONSTANT = re.compile(r"^(?:pub )?const (\w+): .*?;\n", re.M | re.S)
+COMMENT = re.compile(r"//.*|/\*(?:.|\n)*?\*/")
+PUBLIC = re.compile(r'^ *pub (?:extern "C" )?fn (\w+)', re.M)
+FOLLOWS = "was not admitted (it has holes or undetermined implicits, or was rejected), so this cannot be checked"
+OTHER_FACTS = ("has no `Need-", "has no `Tie`", "has no field")
+
+
+def read(path):
+    with open(path, encoding="utf-8") as file:
+        return file.read()
 
 
 def wrong_programs(path):
-    """The wrong programs of an edit file: name, place, fact, and the texts replaced, each with its file."""
-    programs, file, faults = [], "", []
-    for line in open(path, encoding="utf-8").read().splitlines():
-        head = HEAD.match(line)
-        if head:
-            programs.append((*head.groups(), []))
-        elif line.startswith("file: "):
-            file = line.removeprefix("file: ")
-        elif line.startswith("old: "):
-            if not programs:
-                faults.append("a text is replaced before the first `# NAME, refused at PLACE: FACT`")
-                continue
-            programs[-1][3].append((file, line.removeprefix("old: ")))
-    faults += [f"{name} replaces nothing" for name, _, _, replaced in programs if not replaced]
-    return programs, faults
+    """The wrong programs of an edit file: name, place, fact and replacements (file, old text, new text); and the lines that are out of place."""
+    programs, misplaced, file, old = [], [], "", ""
+    for line in read(path).splitlines():
+        key, _, rest = line.partition(": ")
+        if HEAD.match(line):
+            programs.append((*HEAD.match(line).groups(), []))
+        elif "refused at" in line or (key == "old" and not programs):
+            misplaced.append(f"out of place: {line}")
+        elif key == "file":
+            file = rest
+        elif key == "old":
+            old = rest
+        elif line.startswith("new:") and programs:
+            programs[-1][3].append((file, old, line.removeprefix("new:").removeprefix(" ")))
+    return programs, misplaced
 
 
-def items(source):
-    """The functions and constants of a source file: kind, name, text."""
-    starts = [(found.start(), found.group(1), found.group(2)) for found in ITEM.finditer(source)] + [(len(source), "", "")]
-    return [(kind, name, source[start:after[0]]) for (start, kind, name), after in zip(starts, starts[1:])]
+def code(crate, replacements=()):
+    """The code of a crate after replacements: the body of each function, each constant, and under "" all else."""
+    parts = {"": ""}
+    for path in sorted(glob.glob(f"crates/{crate}/src/*.rt")):
+        text = read(path)
+        for file, old, new in replacements:
+            if path.endswith(f"/{file}"):
+                text = text.replace(old, new)
+        text = COMMENT.sub("", text)
+        for pattern, name, body in ((FUNCTION, 2, 3), (CONSTANT, 1, 0)):
+            parts |= {found.group(name): " ".join(found.group(body).split()) for found in pattern.finditer(text)}
+            text = pattern.sub(lambda found: found.group(0).replace(found.group(body), ""), text)
+        parts[""] += " ".join(text.split())
+    return parts
 
 
-def touched(crate, replaced):
-    """The functions that the replaced texts stand in, or that name the constant that they stand in."""
-    functions = set()
-    for file, old in replaced:
-        parts = items(open(f"crates/{crate}/{file}", encoding="utf-8").read())
-        changed = [(kind, name) for kind, name, text in parts if old in text]
-        while changed:
-            kind, name = changed.pop()
-            if kind == "fn":
-                functions.add(name)
-            else:
-                changed += [(what, user) for what, user, body in parts if user != name and re.search(rf"\b{name}\b", body)]
-    return functions
+def reached(crate, replacements):
+    """The functions whose bodies replacements change, or that use a constant that they change; "" where they change anything else."""
+    before, after = code(crate), code(crate, replacements)
+    found, left = set(), [name for name in before | after if before.get(name) != after.get(name)]
+    while left:
+        name = left.pop()
+        if name not in found:
+            found.add(name)
+            left += [user for user in before if name.isupper() and re.search(rf"\b{name}\b", before[user])]
+    return {name for name in found if not name.isupper()}
 
 
-def failing(crate, log):
-    """The facts that a log shows to fail by themselves: place and name."""
-    facts = set()
-    for path, name, message in re.findall(r"^\S*?/((?:proofs|specs|src)/\S+?):\d+:\d+: error: `([^`]*)`: (.*)$", log, re.M):
-        if NOT_ADMITTED not in message:
+def failing(crate, label):
+    """The facts that a log shows to fail by themselves (place and name), and whether there are other facts than before."""
+    log, facts = read(f"target/must-fail/{crate}/{label}/.log"), set()
+    for path, name, message in re.findall(rf"^\S*/must-fail/{crate}/{label}/(\S+?):\d+:\d+: error: `([^`]*)`: (.*)$", log, re.M):
+        if FOLLOWS not in message:
             place = path.removeprefix("proofs/").removesuffix(".antt").removesuffix("/Proof")
             facts.add((place.lstrip("+").replace("/", "::"), name))
     for function, names in re.findall(rf"^fn {crate}::(\S+): no proof: .*`search` does not close (.*)$", log, re.M):
         facts |= {(function, name) for name in re.findall(r"`([^`]*)`", names)}
-    return facts
+    return facts, any(words in log for words in OTHER_FACTS) or any(name.endswith("-spec") for _, name in facts)
+
+
+def faults_of(path):
+    """What is wrong with an edit file or its refusal."""
+    crate, label = path.split("/")[1], os.path.basename(path).removesuffix(".edit")
+    programs, faults = wrong_programs(path)
+    facts, others = failing(crate, label)
+    if others:
+        faults.append("it changes which facts a function needs")
+    shared = []
+    for name, place, fact, replacements in programs:
+        functions = reached(crate, replacements)
+        if (place, fact) not in facts:
+            faults.append(f"{name}: {place} {fact} does not fail; what does: {sorted(facts)}")
+        if not functions and not any(file.startswith("specs/") for file, _, _ in replacements):
+            faults.append(f"{name}: it changes no code and no definition")
+        if any(file.startswith("proofs/") for file, _, _ in replacements):
+            faults.append(f"{name}: it changes a proof")
+        if len(programs) > 1:
+            shared += sorted(functions)
+            if "" in functions or place.split("::")[-1] not in functions or any(not file.startswith("src/") for file, _, _ in replacements):
+                faults.append(f"{name}: a wrong definition or contract, or a fact of another function, has a file of its own")
+    faults += [f"two wrong programs reach {name}" for name in sorted(set(shared)) if shared.count(name) > 1]
+    return [f"{path}: {fault}" for fault in faults]
 
 
 def called(name, functions):
@@ -78,51 +120,28 @@ def called(name, functions):
     return found
 
 
-def too_few(crate):
-    """The public functions of a crate for which fewer than two wrong programs count."""
-    source = "".join(open(path, encoding="utf-8").read() for path in sorted(glob.glob(f"crates/{crate}/src/*.rt")))
-    functions = {name: text for kind, name, text in items(source) if kind == "fn"}
-    reached = []
-    for path in glob.glob(f"crates/{crate}/must-fail/*.edit"):
-        for _, place, _, replaced in wrong_programs(path)[0]:
-            code = [(file, old) for file, old in replaced if file.startswith("src/")]
-            reached.append(touched(crate, code) | {place.split("::")[-1]})
-    for name in PUBLIC.findall(source):
-        count = sum(1 for functions_reached in reached if functions_reached & called(name, functions))
-        if count < 2:
-            yield f"crates/{crate}: {count} wrong programs for {name}"
-
-
-def faults_of(path):
-    """What is wrong with an edit file or its refusal, and how many wrong programs it has."""
-    crate, label = path.split("/")[1], os.path.basename(path).removesuffix(".edit")
-    programs, faults = wrong_programs(path)
-    log = open(f"target/must-fail/{crate}/{label}/.log", encoding="utf-8").read()
-    facts = failing(crate, log)
-    if "has no `Need-" in log:
-        faults.append("it changes which facts a function needs")
-    functions = []
-    for name, place, fact, replaced in programs:
-        if (place, fact) not in facts:
-            faults.append(f"{name}: {place} {fact} does not fail; what does: {sorted(facts)}")
-        if len(programs) > 1:
-            functions += sorted(touched(crate, replaced))
-            if not all(file.startswith("src/") for file, _ in replaced) or place.split("::")[-1] not in touched(crate, replaced):
-                faults.append(f"{name}: a wrong definition, or a fact of another function, stands in a file of its own")
-            if any(re.search(r"\b(ensures|requires)\b", old) for _, old in replaced):
-                faults.append(f"{name}: a wrong contract stands in a file of its own")
-    faults += [f"two wrong programs touch {name}" for name in sorted(set(functions)) if functions.count(name) > 1]
-    return [f"{path}: {fault}" for fault in faults], len(programs)
+def faults_of_crate(crate):
+    """Names that stand twice, and public functions with fewer than two wrong programs."""
+    programs = [program for path in sorted(glob.glob(f"crates/{crate}/must-fail/*.edit")) for program in wrong_programs(path)[0]]
+    names = [name for name, _, _, _ in programs]
+    faults = [f"crates/{crate}: two wrong programs named {name}" for name in sorted(set(names)) if names.count(name) > 1]
+    functions = {name: body for name, body in code(crate).items() if name and not name.isupper()}
+    reach = [reached(crate, replacements) | {place.split("::")[-1]} for _, place, _, replacements in programs]
+    for path in sorted(glob.glob(f"crates/{crate}/src/*.rt")):
+        for name in PUBLIC.findall(read(path)):
+            count = sum(1 for some in reach if some & called(name, functions))
+            faults += [f"crates/{crate}: {count} wrong programs for {name}"] if count < 2 else []
+    return faults
 
 
 def main():
     paths = sorted(glob.glob("crates/*/must-fail/*.edit"))
-    found = [faults_of(path) for path in paths]
-    faults = [fault for some, _ in found for fault in some]
-    faults += [fault for path in sorted(glob.glob("crates/*/src")) for fault in too_few(path.split("/")[1])]
+    faults = [fault for path in paths for fault in faults_of(path)]
+    faults += [fault for path in sorted(glob.glob("crates/*/src")) for fault in faults_of_crate(path.split("/")[1])]
     if faults:
         sys.exit("\n".join(faults))
-    print(f"{sum(count for _, count in found)} wrong programs refused in {len(paths)} checks, each for the fact that it names")
+    count = sum(len(wrong_programs(path)[0]) for path in paths)
+    print(f"{count} wrong programs in {len(paths)} checks, each refused where it says")
 
 
 main()

@@ -81,12 +81,12 @@ module _ (a : Account) (m : ℕ) (delivered received : List ℕ) (x : ℕ) where
       )
 
   -- The number and the answer, from the values that the calls before them gave.
-  pub number-found : (s : List ℕ) (t g : Tally) (fresh bad short days above : Bool) (n : ℕ)
+  pub number-found : (s : List ℕ) (t g : Tally) (fresh bad wronglength wrongdays abovelimit : Bool) (n : ℕ)
       → fresh ≡ isFresh (a .stage) → bad ≡ unusable a
       → s ≡ scheduleOf a → t ≡ tallyOf s m x delivered → g ≡ tallyOf s m x received
-      → short ≡ (t .wronglength || g .wronglength) → days ≡ criticalRefused m x → above ≡ (t .abovelimit || g .abovelimit)
-      → n ≡ billingRow fresh bad (a .next) m short days above → n ≡ billingNumber a m delivered received x
-  number-found s t g fresh bad short days above n f u i j k o p q e = rw (e, f, u, o, p, q, j, k, i) number-is
+      → wronglength ≡ (t .wronglength || g .wronglength) → wrongdays ≡ criticalRefused m x → abovelimit ≡ (t .abovelimit || g .abovelimit)
+      → n ≡ billingRow fresh bad (a .next) m wronglength wrongdays abovelimit → n ≡ billingNumber a m delivered received x
+  number-found s t g fresh bad wronglength wrongdays abovelimit n f u i j k o p q e = rw (e, f, u, o, p, q, j, k, i) number-is
 
   -- Rows 1, 3, 11 and 7 need no reading.
   pub early-number : (fresh bad : Bool) (n : ℕ) → fresh ≡ isFresh (a .stage) → bad ≡ unusable a

@@ -89,7 +89,7 @@ closingAmounts a = record { forfeited = a .carried; refunded = a .standing }
 abbrev pub noAmounts : ClosingAmounts
 noAmounts = record { forfeited = none; refunded = 0 }
 
--- "the account is then closed, with both at 0"
+-- "the account is then closed, with both at 0"; our reading: all else stays as it was.
 abbrev pub closed : Account → Account
 closed a =
     record {

@@ -35,6 +35,7 @@ pub struct Account {
     pub standing: u64,
 }
 
+// What a closing returns: the Wh that it forfeits, by period, and the cents that it refunds.
 pub struct ClosingAmounts {
     pub forfeited: ByPeriod,
     pub refunded: u64,
@@ -209,11 +210,19 @@ fn bill_readings(
     let schedule = hours::fixed_schedule();
     let taken = registers::tally_of(&schedule, delivered, month, critical_days);
     let given = registers::tally_of(&schedule, received, month, critical_days);
-    let short = either(taken.wronglength, given.wronglength);
-    let days = hours::critical_refused(month, critical_days);
-    let above = either(taken.abovelimit, given.abovelimit);
+    let wronglength = either(taken.wronglength, given.wronglength);
+    let wrongdays = hours::critical_refused(month, critical_days);
+    let abovelimit = either(taken.abovelimit, given.abovelimit);
     let next = account.next;
-    let number = refusals::billing_row(fresh, unusable, next, month, short, days, above);
+    let number = refusals::billing_row(
+        fresh,
+        unusable,
+        next,
+        month,
+        wronglength,
+        wrongdays,
+        abovelimit,
+    );
     if number != 0 {
         return BillingReply {
             number,

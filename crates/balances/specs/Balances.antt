@@ -1,11 +1,15 @@
--- Demand 3: the balances over a list of calls from the fresh account. "Each total of demand 3 is a sum over the answers returned:
--- forfeited from bills and closings, refunded from closings, the others from bills. Exported and delivered are instead summed as in step 2
--- from the registers of the bills answered 0. Left (the carried Wh) and standing are those of the account after the list."
+-- Demand 3: the balances over every list of calls from the fresh account, refused ones included. "In every period exported = own + moved out +
+-- paid + forfeited + left and delivered = own + moved in + billed; summed, moved out = moved in; granted = used + refunded + standing; every bill
+-- that charges a watt-hour in a period has left 0 and paid 0 there and in each dearer period." Document 01 says of the totals: "each total of
+-- demand 3 is a sum over the answers returned: forfeited from bills and closings, refunded from closings, the others from bills. Exported and
+-- delivered are instead summed as in step 2 from the registers of the bills answered 0. Left (the carried Wh) and standing are those of the
+-- account after the list."
 use mathlib.Core.Path.{_≡_}
 use mathlib.Core.Bool.{cond}
 use mathlib.Core.List.{List, [], _∷_}
 use Prim.Native.Nat.{ℕ, _+_, _≤_, _<_}
 use lib.Dec.{eqb}
+use Rattle.hours.specs.Hours.{critical, onPeak, offPeak, discount}
 use Rattle.hours.specs.declared.ByPeriod.{ByPeriod}
 use Rattle.registers.specs.Registers.{sumOf}
 use Rattle.billing.specs.declared.Bill.{Bill}
@@ -22,10 +26,10 @@ pub data Period : Type 0 where
   Discount : Period
 
 abbrev pub numberOf : Period → ℕ
-numberOf Critical = 0
-numberOf OnPeak = 1
-numberOf OffPeak = 2
-numberOf Discount = 3
+numberOf Critical = critical
+numberOf OnPeak = onPeak
+numberOf OffPeak = offPeak
+numberOf Discount = discount
 
 abbrev pub amountOf : Period → ByPeriod → ℕ
 amountOf Critical a = a .critical
@@ -72,8 +76,8 @@ unfoldable pub Each : (Answer → Type 0) → List Answer → Type 0
 Each P [] = Unit {0}
 Each P (x ∷ xs) = P x × Each P xs
 
--- "every bill that charges a watt-hour in a period has left 0 and paid 0 there and in each dearer period"; "a dearer period is one of lower
--- number".
+-- A bill that charges a watt-hour in period p has left 0 and paid 0 there and in each dearer period q: "left and paid are that bill's own; a
+-- dearer period is one of lower number".
 abbrev pub ChargedLast : Answer → Type 0
 ChargedLast x =
     (p q : Period) → 0 < amountOf p (x .bill .billed) → numberOf q ≤ numberOf p
@@ -81,18 +85,23 @@ ChargedLast x =
 
 -- The balances of a list from the fresh account.
 pub record Balanced (cs : List Call) : Type 0 where
+  -- "exported = own + moved out + paid + forfeited + left"
   pub exported : (p : Period) →
       registerTotal (exportedBy p) freshAccount cs
       ≡ billTotal p (λ b. b .own) (answersOf freshAccount cs) + billTotal p (λ b. b .out) (answersOf freshAccount cs)
       + billTotal p (λ b. b .paid) (answersOf freshAccount cs) + forfeitedTotal p (answersOf freshAccount cs)
       + amountOf p (lastOf freshAccount cs .carried)
+  -- "delivered = own + moved in + billed"
   pub delivered : (p : Period) →
       registerTotal (deliveredBy p) freshAccount cs
       ≡ billTotal p (λ b. b .own) (answersOf freshAccount cs) + billTotal p (λ b. b .into) (answersOf freshAccount cs)
       + billTotal p (λ b. b .billed) (answersOf freshAccount cs)
+  -- "summed, moved out = moved in"
   pub moved : allPeriods (λ b. b .out) (answersOf freshAccount cs) ≡ allPeriods (λ b. b .into) (answersOf freshAccount cs)
+  -- "granted = used + refunded + standing"
   pub money :
       totalBy (λ x. x .bill .charges .granted) (answersOf freshAccount cs)
       ≡ totalBy (λ x. x .bill .charges .used) (answersOf freshAccount cs)
       + totalBy (λ x. x .amounts .refunded) (answersOf freshAccount cs) + lastOf freshAccount cs .standing
+  -- "every bill that charges a watt-hour .."
   pub charged : Each ChargedLast (answersOf freshAccount cs)

@@ -16,7 +16,8 @@ pub data Call : Type 0 where
   billing : ℕ → List ℕ → List ℕ → ℕ → Call
   closing : Call
 
--- The answer to a call on an account: its number and every amount. A call has 0 in the amounts that it doesn't return.
+-- The answer to a call on an account: its number and every amount. Our reading: a call has 0 in the amounts that it
+-- doesn't return.
 unfoldable pub answerOf : Account → Call → Answer
 answerOf a (opening t l m) = record { number = openingReply a t l m .number; bill = noBill; amounts = noAmounts }
 answerOf a (repricing l) = record { number = repricingReply a l .number; bill = noBill; amounts = noAmounts }

@@ -1,5 +1,6 @@
 -- Document 01, "Calendar and hours": months, their days, weekdays and seasons; and the readings that a register has of them.
--- m is a month, d a day of it (1 is the first) and j a reading of that day (0 is the first). Each definition holds for every number.
+-- m is a month, d a day of it (1 is the first) and j a reading of that day (0 is the first). Each definition is total: past what 01 speaks of it
+-- goes on by the same rule, and where a subtraction would go below 0 it gives 0, so that day 0 has the weekday of day 1.
 use mathlib.Core.Bool.{Bool, cond, not, _&&_, _||_}
 use mathlib.Core.List.{List, [], _∷_}
 use Prim.Native.Nat.{ℕ, zero, suc, _+_, _-_, _*_, _/_, _%_}
@@ -22,7 +23,7 @@ lastMonth = monthNumber 2099 12
 abbrev pub yearOf : ℕ → ℕ
 yearOf m = 2000 + m / 12
 
--- The month of the year of month m: 1 is January, 12 December.
+-- The month of the year of month m: 1 is January, 12 December. (`month-number` of the laws: a month's year and month of the year number it.)
 abbrev pub monthOfYear : ℕ → ℕ
 monthOfYear m = m % 12 + 1
 

@@ -17,11 +17,11 @@ use Rattle.billing.specs.Billing.{none, billFrom}
 use Rattle.billing.specs.declared.Bill.{Bill}
 
 -- Four amounts, dearest period first; and off-peak Wh alone.
-abbrev pub four : ℕ → ℕ → ℕ → ℕ → ByPeriod
-four p q r s = record { critical = p; onpeak = q; offpeak = r; discount = s }
+abbrev pub amounts : ℕ → ℕ → ℕ → ℕ → ByPeriod
+amounts p q r s = record { critical = p; onpeak = q; offpeak = r; discount = s }
 
 abbrev pub offPeakOnly : ℕ → ByPeriod
-offPeakOnly x = four 0 0 x 0
+offPeakOnly x = amounts 0 0 x 0
 
 -- The prices and amounts of e to j; all others are 0.
 abbrev pub chartPrices : PriceList
@@ -55,11 +55,11 @@ juneBill l standing power =
 
 -- "Proved against the definitions as one chart, by one theorem".
 pub record WallChart : Type 0 where
-  pub a-out : sharedOf (four 10 0 5 0) (four 0 4 0 9) .out ≡ four 10 0 3 0
-  pub a-in : sharedOf (four 10 0 5 0) (four 0 4 0 9) .into ≡ four 0 4 0 9
-  pub a-unspent : sharedOf (four 10 0 5 0) (four 0 4 0 9) .unspent ≡ four 0 0 2 0
-  pub b-out : sharedOf (four 0 0 0 7) (four 3 0 0 0) .out ≡ none
-  pub b-in : sharedOf (four 0 0 0 7) (four 3 0 0 0) .into ≡ none
+  pub a-out : sharedOf (amounts 10 0 5 0) (amounts 0 4 0 9) .out ≡ amounts 10 0 3 0
+  pub a-in : sharedOf (amounts 10 0 5 0) (amounts 0 4 0 9) .into ≡ amounts 0 4 0 9
+  pub a-unspent : sharedOf (amounts 10 0 5 0) (amounts 0 4 0 9) .unspent ≡ amounts 0 0 2 0
+  pub b-out : sharedOf (amounts 0 0 0 7) (amounts 3 0 0 0) .out ≡ none
+  pub b-in : sharedOf (amounts 0 0 0 7) (amounts 3 0 0 0) .into ≡ none
   pub c : cents 499999 ≡ 0
   pub d : cents 500000 ≡ 1
   pub e : grantedOf chartPrices (offPeakOnly 10000) ≡ 34

@@ -1,4 +1,4 @@
--- What can stand after a key, by its kind.
+-- What can stand after a key, by its kind, as the code names kinds. No public contract cites this file.
 use mathlib.Core.List.{List, [], _∷_}
 use Prim.Native.Nat.{ℕ}
 use lib.ListN.{getD}

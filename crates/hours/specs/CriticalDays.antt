@@ -23,6 +23,10 @@ criticalAfter x a (suc n) = criticalAfter x a n || isCritical x (a + suc n)
 unfoldable pub pastLastDay : ℕ → ℕ → Bool
 pastLastDay m x = criticalAfter x (daysIn m) (32 - daysIn m)
 
+-- "The number of days set is at most 10."
+abbrev pub mostCriticalDays : ℕ
+mostCriticalDays = 10
+
 -- Refusal 9: "a bit past the month's last day, or more than 10" of the 32 days that can be set.
 unfoldable pub criticalRefused : ℕ → ℕ → Bool
-criticalRefused m x = pastLastDay m x || ltb 10 (criticalCount x 32)
+criticalRefused m x = pastLastDay m x || ltb mostCriticalDays (criticalCount x 32)

@@ -42,7 +42,7 @@ windows s k q zero = []
 windows s k q (suc n) = windowPeriod s k q ∷ windows s k (suc q) n
 
 -- "The hours are kept as a fixed schedule of 384 entries, one for each season, day kind and quarter": 96 for the weekdays and 96 for
--- the weekends of winter, then those of summer (our reading of the order).
+-- the weekends of winter, then those of summer (our reading of the order). `entry-is` of the laws says it entry by entry.
 unfoldable pub fixedSchedule : List ℕ
 fixedSchedule = windows Winter Weekday 0 96 ++ windows Winter Weekend 0 96 ++ windows Summer Weekday 0 96 ++ windows Summer Weekend 0 96
 
@@ -61,9 +61,14 @@ isPeak p = eqb p critical || eqb p onPeak
 unfoldable pub periodOnDay : Bool → ℕ → ℕ
 periodOnDay isCriticalDay p = cond (isCriticalDay && eqb p onPeak) critical p
 
--- The period of reading j of day d of month m by a schedule, where x names the critical days.
+-- The period of reading j of day d of month m by a schedule, where x names the critical days. A schedule has 384 entries; a missing one is read
+-- as 0.
 unfoldable pub periodOf : List ℕ → ℕ → ℕ → ℕ → ℕ → ℕ
 periodOf schedule m x d j = periodOnDay (isCritical x d) (getD schedule (rowStart (seasonOf m) (dayKindOf m d) + quarterOf m d j) 0)
+
+-- The four amounts, dearest first, and then other numbers.
+abbrev pub four : ByPeriod → List ℕ → List ℕ
+four a rest = a .critical ∷ a .onpeak ∷ a .offpeak ∷ a .discount ∷ rest
 
 -- Four amounts, one for each period, from the amount of period p.
 abbrev pub byPeriod : (ℕ → ℕ) → ByPeriod

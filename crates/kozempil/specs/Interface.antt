@@ -9,7 +9,7 @@ use Rattle.account.specs.declared.Stage.{Stage}
 use Rattle.account.specs.declared.Stage.the-variants.{Fresh, Open, Closed}
 use Rattle.account.specs.declared.Account.{Account}
 use Rattle.records.specs.Records.{recordLength, riderCode, classCode, yesCode, termsAt, pricesAt, fourAt, isCall}
-use Rattle.records.specs.Rows.{four}
+use Rattle.hours.specs.Hours.{four}
 
 -- Stages as numbers.
 abbrev pub stageCode : Stage → ℕ

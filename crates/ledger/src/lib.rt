@@ -72,10 +72,10 @@ fn answer_billing(
     ensures { λ r. ⌜ r ≡ stepOf account (billing month (now (delivered .entry)) (now (received .entry)) «critical_days») ⌝ }
 {
     let reply = account.billing(month, delivered, received, critical_days);
-    let after = reply.account;
+    let billed = reply.account;
     let bill = reply.bill;
     Step {
-        account: after,
+        account: billed,
         answer: Answer {
             number: reply.number,
             bill,

@@ -4,7 +4,7 @@ use Prim.Native.Nat.{ℕ}
 use lib.ListN.{length, getD}
 use Rattle.numerals.specs.declared.Numbers.{Numbers}
 
--- At most four numbers, how many there are, and 0 in the places of the others.
+-- How many numbers there are, and the first four of them, 0 where there are fewer.
 abbrev pub numbersAs : List ℕ → Numbers
 numbersAs xs =
     record { count = length xs; first = getD xs 0 0; second = getD xs 1 0; third = getD xs 2 0; fourth = getD xs 3 0 }

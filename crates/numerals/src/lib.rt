@@ -15,7 +15,7 @@ const MOST_DIGITS: usize = 10;
 // The bytes of a month.
 const MONTH_LENGTH: usize = 7;
 
-// The numbers of a text: at most four, with 0 in the places of the others. A text that can't be read has none.
+// How many numbers a text has, and the first four of them, 0 where there are fewer. A text that can't be read has none.
 pub struct Numbers {
     pub count: usize,
     pub first: u32,

@@ -2,14 +2,10 @@
 use mathlib.Core.List.{List, [], _∷_, _++_}
 use Prim.Native.Nat.{ℕ, _/_, _%_}
 use Rattle.calendar.specs.Calendar.{yearOf, monthOfYear}
-use Rattle.hours.specs.declared.ByPeriod.{ByPeriod}
+use Rattle.hours.specs.Hours.{four}
 use Rattle.text.specs.Text.{bytesOf}
 use Rattle.billing.specs.declared.Bill.{Bill}
 use Rattle.printing.specs.Text.{filledIn}
-
--- Four numbers by period, dearest first, and then others.
-abbrev pub four : ByPeriod → List ℕ → List ℕ
-four a rest = a .critical ∷ a .onpeak ∷ a .offpeak ∷ a .discount ∷ rest
 
 -- "the seven energy rows by period (moved out as `out`, moved in as `in`), energy and due"
 abbrev pub amounts : Bill → List ℕ

@@ -1,7 +1,7 @@
 -- How an answer is written.
 use mathlib.Core.List.{List, [], _∷_}
 use Prim.Native.Nat.{ℕ}
-use Rattle.hours.specs.declared.ByPeriod.{ByPeriod}
+use Rattle.hours.specs.Hours.{four}
 use Rattle.charges.specs.declared.Charges.{Charges}
 use Rattle.records.specs.declared.Answer.{Answer}
 
@@ -9,15 +9,13 @@ use Rattle.records.specs.declared.Answer.{Answer}
 abbrev pub rowLength : ℕ
 rowLength = 60
 
--- The row of an answer: its number; of the bill, four for each amount by period, then the money lines; of a closing, what it forfeits
--- and refunds.
-abbrev pub four : ByPeriod → List ℕ → List ℕ
-four a rest = a .critical ∷ a .onpeak ∷ a .offpeak ∷ a .discount ∷ rest
-
+-- The money lines of a bill, and then other numbers.
 abbrev pub lines : Charges → List ℕ → List ℕ
 lines c rest =
     c .energy ∷ c .demand ∷ c .standby ∷ c .bypass ∷ c .shortfall ∷ c .gross ∷ c .granted ∷ c .used ∷ c .due ∷ c .standing ∷ rest
 
+-- The row of an answer: its number; of the bill, four for each amount by period, then the money lines; of a closing, what it forfeits
+-- and refunds.
 abbrev pub rowOf : Answer → List ℕ
 rowOf x =
     x .number

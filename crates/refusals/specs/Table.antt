@@ -1,6 +1,7 @@
 -- Document 01, "When the office declines": the rows of each call, in the order in which they are asked. fresh, opened and unusable say
--- what the account is, and next is its next month; t are terms, l is a price list, m a month; short, days and above say whether rows 8, 9
--- and 10 apply.
+-- what the account is, and next is its next month; t are terms, l is a price list, m a month; wronglength, wrongdays and abovelimit say whether
+-- rows 8, 9 and 10 apply. The words of the rows: 1 not open, 2 open already, 3 closed, 4 price list, 5 capacity, 6 no bridge, 7 month, 8 register
+-- length, 9 critical days, 10 reading, 11 book full.
 use mathlib.Core.Bool.{Bool, cond, not}
 use mathlib.Core.List.{List, [], _∷_}
 use Prim.Native.Nat.{ℕ}
@@ -24,7 +25,7 @@ abbrev pub firstOf : List Row → ℕ
 firstOf [] = 0
 firstOf (r ∷ rs) = cond (r .applies) (r .number) (firstOf rs)
 
--- Opening: rows 2 ("opening an open account"), 3, 4, 5, 6, 7 ("first month above 1199").
+-- The number of the first row that applies, for each call. Opening: rows 2 ("opening an open account"), 3, 4, 5, 6, 7 ("first month above 1199").
 unfoldable pub openingRow : Bool → Bool → Terms → PriceList → ℕ → ℕ
 openingRow opened unusable t l m =
     firstOf
@@ -42,15 +43,15 @@ repricingRow fresh unusable l = firstOf (row 1 fresh ∷ row 3 unusable ∷ row 
 
 -- Billing: rows 1, 3, 11 ("billing when December 2099 has been billed"), 7 ("billing a month other than the next"), 8, 9, 10.
 unfoldable pub billingRow : Bool → Bool → ℕ → ℕ → Bool → Bool → Bool → ℕ
-billingRow fresh unusable next m short days above =
+billingRow fresh unusable next m wronglength wrongdays abovelimit =
     firstOf
     (row 1 fresh
     ∷ row 3 unusable
     ∷ row 11 (ltb lastMonth next)
     ∷ row 7 (not (eqb m next))
-    ∷ row 8 short
-    ∷ row 9 days
-    ∷ row 10 above
+    ∷ row 8 wronglength
+    ∷ row 9 wrongdays
+    ∷ row 10 abovelimit
     ∷ [])
 
 -- Closing: rows 1, 3.

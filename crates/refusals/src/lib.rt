@@ -53,11 +53,11 @@ pub fn billing_row(
     unusable: bool,
     next: u32,
     month: u32,
-    short: bool,
-    days: bool,
-    above: bool,
+    wronglength: bool,
+    wrongdays: bool,
+    abovelimit: bool,
 ) -> u32
-    ensures { λ r. ⌜ r ≡ billingRow fresh unusable next month short days above ⌝ }
+    ensures { λ r. ⌜ r ≡ billingRow fresh unusable next month wronglength wrongdays abovelimit ⌝ }
 {
     let number = closing_row(fresh, unusable);
     if number != 0 {
@@ -69,11 +69,11 @@ pub fn billing_row(
     if month != next {
         return 7;
     }
-    if short {
+    if wronglength {
         return 8;
     }
-    if days {
+    if wrongdays {
         return 9;
     }
-    if above { 10 } else { 0 }
+    if abovelimit { 10 } else { 0 }
 }

@@ -9,7 +9,7 @@ use Rattle.calendar.specs.Calendar.{daysIn, dayLength, readingsThrough, monthLe
 use Rattle.hours.specs.Hours.{isPeak, periodOf, byPeriod}
 use Rattle.registers.specs.declared.Tally.{Tally}
 
--- What reading i of a register (0 is the first) counts as: itself.
+-- What reading i of a register (0 is the first) counts as: itself. Past the register's end it is 0.
 unfoldable pub reading : List ℕ → ℕ → ℕ
 reading r i = getD r i 0
 
@@ -62,8 +62,8 @@ readingRefused r = someAbove r (length r)
 unfoldable pub lengthRefused : ℕ → List ℕ → Bool
 lengthRefused m r = not (eqb (length r) (monthLength m))
 
--- All that a bill reads from one register: refusals 8 and 10, the sums by period and the power of the demand line. A register of the
--- wrong length has no sums.
+-- All that a bill reads from one register: refusals 8 and 10, the sums by period and, of the delivered one, the power of the demand line. A
+-- register of the wrong length has no sums.
 unfoldable pub tallyOf : List ℕ → ℕ → ℕ → List ℕ → Tally
 tallyOf schedule m x r =
     cond (lengthRefused m r)

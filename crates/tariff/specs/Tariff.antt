@@ -34,7 +34,8 @@ ninePrices l =
 unfoldable pub pricesRise : ByPeriod → Bool
 pricesRise e = ltb (e .critical) (e .onpeak) || ltb (e .onpeak) (e .offpeak) || ltb (e .offpeak) (e .discount)
 
--- Refusal 4: "a price or amount above its limit, or an energy price above the one before".
+-- Refusal 4: "a price or amount above its limit, or an energy price above the one before". "All eleven are checked under both riders": the
+-- terms don't matter.
 unfoldable pub pricesRefused : PriceList → Bool
 pricesRefused l =
     someOver priceLimit (ninePrices l) || someOver amountLimit (l .basic ∷ l .minimum ∷ []) || pricesRise (l .energy)

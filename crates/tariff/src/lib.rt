@@ -17,7 +17,8 @@ pub enum Class {
     Business,
 }
 
-// Terms of an account: the nameplate and the demand limit are in W.
+// Terms of an account. The nameplate is in W, and so is the demand limit: the estimated largest demand of a home, the contract demand of a
+// business. An assisted customer pays no shortfall up to a nameplate.
 pub struct Terms {
     pub rider: Rider,
     pub class: Class,
@@ -26,7 +27,7 @@ pub struct Terms {
     pub assisted: bool,
 }
 
-// Prices are in hundred-thousandths of a dollar per kWh or per kW, basic and minimum in cents.
+// Prices are in hundred-thousandths of a dollar per kWh or per kW, basic and minimum in cents. Bypass is the non-bypassable charge.
 pub struct PriceList {
     pub energy: ByPeriod,
     pub demand: u64,
