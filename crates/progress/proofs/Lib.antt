@@ -1,4 +1,5 @@
 mod Lines
 mod Runs
 pub mod RunLines
+pub mod Stopped
 pub mod Stores

@@ -22,6 +22,7 @@ use Rattle.printing.specs.Printing.{billText, openText, lineText}
 use Rattle.printing.specs.Writing.{hasRoom, Wrote, Put}
 use Rattle.progress.specs.Statement.{State, state, Outcome, outcome, nextNumber, fault, opened, openingRead, begun, billRead, withCritical, criticalRead}
 use Rattle.progress.specs.Statement.{placeOfLine, withRun, runRead, monthReply, monthEnd, runOrBillRead, counted, expectedRead, lineRead, atEnd}
+use Rattle.progress.specs.Statement.{hasStopped}
 use Rattle.progress.specs.Progressing.{Reads}
 use Rattle.progress.specs.Ending.{Ends, valuesWith}
 use Rattle.grammar.proofs.Laws.{opening-count, prices-count}
@@ -164,18 +165,18 @@ module _ (s : State) where
   end-opened e = rw (eq-eqb (s .expected) 14 e)
 
   pub end-stopped : (s .expected ≡ 14 → ⊥) → 16 < s .expected → atEnd s ≡ []
-  unfolding atEnd
+  unfolding atEnd hasStopped
   end-stopped n h = rw (ne-eqb (s .expected) 14 n, lt-ltb 16 (s .expected) h)
 
   pub end-month : (r : BillingReply) → r ≡ monthReply s → (s .expected ≡ 14 → ⊥) → s .expected ≤ 16 → s .expected ≡ 16
       → atEnd s ≡ billText (s .entered .month) (r .number) (r .bill)
-  unfolding atEnd monthEnd
+  unfolding atEnd hasStopped monthEnd
   end-month r e n h k =
       rw (ne-eqb (s .expected) 14 n, le-ltb 16 (s .expected) h, eq-eqb (s .expected) 16 k)
       (ap (λ (q : BillingReply). billText (s .entered .month) (q .number) (q .bill)) (sym e))
 
   pub end-absent : (s .expected ≡ 14 → ⊥) → s .expected ≤ 16 → (s .expected ≡ 16 → ⊥) → atEnd s ≡ lineText (nextNumber (s .lines))
-  unfolding atEnd
+  unfolding atEnd hasStopped
   end-absent n h k = rw (ne-eqb (s .expected) 14 n, le-ltb 16 (s .expected) h, ne-eqb (s .expected) 16 k)
 
 -- A month that is complete.

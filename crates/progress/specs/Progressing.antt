@@ -10,7 +10,7 @@ use Rattle.text.specs.Text.{placeOf}
 use Rattle.grammar.specs.Grammar.{runLine}
 use Rattle.printing.specs.Writing.{hasRoom}
 use Rattle.progress.specs.declared.Progress.{Progress}
-use Rattle.progress.specs.Statement.{State, state, monthOf, Outcome, isUnreadable, mostReadings, runExpected, lineRead}
+use Rattle.progress.specs.Statement.{State, state, monthOf, Outcome, isUnreadable, mostReadings, runExpected, hasStopped, lineRead}
 
 -- The readings of the month stand at the front of the two registers.
 abbrev pub stateOf : Progress → List ℕ → List ℕ → State
@@ -21,6 +21,10 @@ stateOf x delivered received =
 -- Whatever the registers hold, the progress stands for a state.
 abbrev pub StandsFor : State → Progress → Type 0
 StandsFor s x = (d e : List ℕ) → stateOf x d e ≡ s
+
+-- Whatever the registers hold, the answer says whether a fault has stopped it.
+abbrev pub SaysStopped : Progress → Bool → Type 0
+SaysStopped x answer = (d e : List ℕ) → answer ≡ hasStopped (stateOf x d e)
 
 -- A line was read, where a text fits into the buffer from place i on: what the progress stands for then, and its text. Elsewhere both
 -- stay as they were.

@@ -51,6 +51,10 @@ runExpected = 16
 abbrev pub stopped : ℕ
 stopped = 17
 
+-- Whether a fault has stopped the program: of what can be expected only `stopped` is above `runExpected`.
+unfoldable pub hasStopped : State → Bool
+hasStopped s = ltb runExpected (s .expected)
+
 -- The state before the first line.
 abbrev pub start : State
 start = state 0 0 (replicate 17 0) freshAccount (monthOf 0 0 [] [])
@@ -163,7 +167,7 @@ lineRead l s = expectedRead l (counted s)
 -- number that it would have had.
 unfoldable pub atEnd : State → List ℕ
 atEnd s =
-    cond (eqb (s .expected) billExpected || ltb runExpected (s .expected)) []
+    cond (eqb (s .expected) billExpected || hasStopped s) []
     (cond (eqb (s .expected) runExpected) (monthEnd s .text) (lineText (nextNumber (s .lines))))
 
 -- What is printed from a state on.

@@ -3,13 +3,12 @@ ghost use mathlib.Core.Path.{_≡_};
 ghost use mathlib.Core.Bool.{true};
 ghost use mathlib.Core.List.{List, _++_};
 ghost use Prim.Native.Nat.{ℕ, _+_, _-_, _≤_, _<_, min};
-ghost use lib.Dec.{ltb};
 ghost use lib.ListN.{length, take, replicate};
 ghost use Rattle.grammar.specs.Grammar.{openingLine, billLine, criticalLine, runLine};
 ghost use Rattle.numerals.specs.Reading.{numbersAs};
 ghost use Rattle.printing.specs.Writing.{hasRoom, Put};
-ghost use Rattle.progress.specs.Statement.{start, runExpected, nextNumber, counted, begun, fault, monthReply, opened, openingRead, billRead, criticalRead, runRead, monthEnd, runOrBillRead, expectedRead, lineRead, atEnd};
-ghost use Rattle.progress.specs.Progressing.{stateOf, StandsFor, Reads, RunsRead};
+ghost use Rattle.progress.specs.Statement.{start, nextNumber, counted, begun, fault, monthReply, opened, openingRead, billRead, criticalRead, runRead, monthEnd, runOrBillRead, expectedRead, lineRead, atEnd};
+ghost use Rattle.progress.specs.Progressing.{stateOf, StandsFor, SaysStopped, Reads, RunsRead};
 ghost use Rattle.progress.specs.Ending.{valuesWith, StandsAs, Ends, EndsAs, runAt, StandsAfter};
 use account::Account;
 use account::BillingReply;
@@ -411,7 +410,7 @@ impl Progress {
 
     // Whether a fault has stopped it.
     pub fn is_stopped(self) -> bool
-        ensures { λ r. ⌜ r ≡ ltb runExpected (self .expected) ⌝ }
+        ensures { λ r. ⌜ SaysStopped self r ⌝ }
     {
         RUN_EXPECTED < self.expected
     }

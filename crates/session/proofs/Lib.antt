@@ -5,4 +5,5 @@ mod Turns
 mod Running
 mod Going
 mod Ending
+mod Quiet
 pub mod Streams

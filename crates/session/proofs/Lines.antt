@@ -14,6 +14,7 @@ use Rattle.printing.specs.Printing.{lineText}
 use Rattle.printing.proofs.Laws.{bill-fits, open-fits, line-fits}
 use Rattle.progress.specs.Statement.{State, Outcome, counted, fault, opened, openingRead, billRead, criticalRead, runRead, monthEnd, runOrBillRead}
 use Rattle.progress.specs.Statement.{expectedRead, lineRead, atEnd, billExpected, criticalExpected, runExpected, outcome, nextNumber, isUnreadable}
+use Rattle.progress.specs.Statement.{hasStopped}
 
 -- All lines of more than 50 bytes are read alike: they are unreadable.
 long-alike : (l m : List ℕ) (s : State) → 50 < length l → 50 < length m → lineRead l s ≡ lineRead m s
@@ -99,7 +100,7 @@ text-fits l s = expected-fits l (counted s) .long
 -- The same of what the end of the input prints.
 pub end-fits : (s : State) → length (atEnd s) ≤ 1024
 unfolding atEnd
-end-fits s = by (eqb (s .expected) billExpected || ltb runExpected (s .expected)) (eqb (s .expected) runExpected)
+end-fits s = by (eqb (s .expected) billExpected || hasStopped s) (eqb (s .expected) runExpected)
   where
     by : (t u : Bool) → length (cond t [] (cond u (monthEnd s .text) (lineText (nextNumber (s .lines))))) ≤ 1024
     by true u = omega arith

@@ -10,6 +10,7 @@ use lib.ListN.{length, take}
 use Rattle.progress.specs.Statement.{State, lineRead, atEnd, textFrom, linesFrom, statementOf}
 use Rattle.session.specs.Feeding.{SoFar, nothingRead, afterByte, byteText, after, printed, ending, takenOf, joined, piecesText, Streams}
 use Rattle.session.proofs.Lines.{line-cut}
+use Rattle.session.proofs.Quiet.{quiet}
 
 pub cut-text : (x : SoFar) (bytes more : List ℕ) → printed x (bytes ++ more) ≡ printed x bytes ++ printed (after x bytes) more
 unfolding printed after
@@ -91,6 +92,7 @@ streams =
       cut-text = cut-text;
       cut-state = cut-state;
       pieces = λ ps. pieces-from nothingRead ps ∙ from-line (joined ps) [] _;
+      quiet = quiet;
     }
 
 -- Where a text fits, a session takes at least one byte of an input that has any.

@@ -1,12 +1,12 @@
 -- `statement` fed with bytes as they come.
 use mathlib.Core.Path.{_≡_}
-use mathlib.Core.Bool.{cond}
+use mathlib.Core.Bool.{true, cond}
 use mathlib.Core.List.{List, [], _∷_, _++_}
 use Prim.Native.Nat.{ℕ, zero, suc, _+_, _-_}
 use lib.Dec.{eqb, leb}
 use lib.ListN.{length, take}
 use Rattle.printing.specs.Writing.{textRoom}
-use Rattle.progress.specs.Statement.{State, start, lineRead, atEnd, statementOf}
+use Rattle.progress.specs.Statement.{State, hasStopped, start, lineRead, atEnd, statementOf}
 
 -- No readable line has more than 50 bytes, so of a line that isn't complete yet at most 51 are kept: they tell that it is too long.
 abbrev pub keptBytes : ℕ
@@ -64,3 +64,5 @@ pub record Streams : Type 0 where
   pub cut-text : (x : SoFar) (bytes more : List ℕ) → printed x (bytes ++ more) ≡ printed x bytes ++ printed (after x bytes) more
   pub cut-state : (x : SoFar) (bytes more : List ℕ) → after x (bytes ++ more) ≡ after (after x bytes) more
   pub pieces : (ps : List (List ℕ)) → piecesText nothingRead ps ≡ statementOf (joined ps)
+  -- After a fault nothing is printed, whatever follows: so the program need not read on.
+  pub quiet : (x : SoFar) (bytes : List ℕ) → hasStopped (x .state) ≡ true → printed x bytes ++ ending (after x bytes) ≡ []

@@ -1,12 +1,13 @@
 -- What a session and the buffers lent to it stand for, and what its functions promise.
 use mathlib.Core.Path.{_≡_}
-use mathlib.Core.Bool.{cond}
+use mathlib.Core.Bool.{Bool, cond}
 use mathlib.Core.List.{List}
 use Prim.Native.Nat.{ℕ, _≤_}
 use lib.Dec.{leb}
 use lib.ListN.{length, take}
 use lib.Seq.{sets}
 use Rattle.printing.specs.Writing.{Wrote}
+use Rattle.progress.specs.Statement.{hasStopped}
 use Rattle.progress.specs.Progressing.{stateOf}
 use Rattle.session.specs.declared.Session.{Session}
 use Rattle.session.specs.Feeding.{SoFar, nothingRead, after, printed, ending, takenOf}
@@ -18,6 +19,10 @@ soFarOf x line delivered received = record { line = take (x .held) line; state =
 -- Whatever the buffers hold, nothing has been read.
 abbrev pub Begins : Session → Type 0
 Begins x = (line d e : List ℕ) → soFarOf x line d e ≡ nothingRead
+
+-- Whatever the buffers hold, the answer says whether a fault has stopped it.
+abbrev pub SaysStopped : Session → Bool → Type 0
+SaysStopped x answer = (line d e : List ℕ) → answer ≡ hasStopped (soFarOf x line d e .state)
 
 -- Feeding a session: how many bytes of the input it takes, what it stands for then, and what it writes from the front of the buffer for texts.
 pub record Feeds

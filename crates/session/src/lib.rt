@@ -3,12 +3,11 @@ ghost use mathlib.Core.Path.{_≡_};
 ghost use mathlib.Core.Bool.{true};
 ghost use mathlib.Core.List.{[]};
 ghost use Prim.Native.Nat.{_≤_, min};
-ghost use lib.Dec.{ltb};
 ghost use lib.ListN.{length, take};
 ghost use Rattle.printing.specs.Writing.{hasRoom};
-ghost use Rattle.progress.specs.Statement.{runExpected, lineRead};
+ghost use Rattle.progress.specs.Statement.{lineRead};
 ghost use Rattle.progress.specs.Progressing.{stateOf, Reads};
-ghost use Rattle.session.specs.Sessions.{soFarOf, Begins, Feeds, Finishes};
+ghost use Rattle.session.specs.Sessions.{soFarOf, Begins, SaysStopped, Feeds, Finishes};
 ghost use Rattle.session.specs.Taking.{Keeps, TakesLine, Takes, held};
 use progress::Ended;
 use progress::Progress;
@@ -172,7 +171,7 @@ impl Session {
 
     // Whether a fault has stopped it.
     pub fn is_stopped(self) -> bool
-        ensures { λ r. ⌜ r ≡ ltb runExpected (self .progress .expected) ⌝ }
+        ensures { λ r. ⌜ SaysStopped self r ⌝ }
     {
         let progress = self.progress;
         progress.is_stopped()
