@@ -5,12 +5,12 @@ use mathlib.Core.List.{List, [], _∷_, _++_}
 use Prim.Native.Nat.{ℕ, suc, _+_, _-_, _≤_, _<_}
 use native.Mathlib.Nat.{add-zero, add-suc, suc-add, sub-zero}
 use native.Mathlib.Omega.{arith}
-use borrow.Author.Tests.{leb-true, leb-false, not-true, not-false}
+use borrow.Author.Tests.{le-leb, lt-leb, leb-true, leb-false, not-true, not-false}
 use lib.ListN.{length, set, take, drop, length-append, length-drop, drop-of-length-le}
 use lib.Seq.{sets, length-sets, take-all, take-add, drop-drop}
 use Rattle.printing.specs.Writing.{hasRoom, Wrote}
 use Rattle.session.specs.Feeding.{SoFar, after, printed, takenOf}
-use Rattle.session.specs.Sessions.{Feeds}
+use Rattle.session.specs.Sessions.{leastRoom, Feeds}
 use Rattle.session.specs.Taking.{Takes}
 use Rattle.session.proofs.Streams.{cut-text, cut-state}
 use Rattle.session.proofs.Taking.{none-taken}
@@ -34,12 +34,26 @@ pub record Going (before : SoFar) (input out : List ℕ) (taken : ℕ) (current 
   pub text : Wrote out 0 (printed before (take taken input)) outCurrent written
   pub inside : taken ≤ length input
   pub fits : written ≤ length out
+  pub room : leastRoom ≤ length out
+
+-- With less room than for two texts nothing is taken.
+pub none-fed : (before : SoFar) (input out : List ℕ) → length out < leastRoom → Feeds before input out 0 before 0 out
+unfolding after printed
+none-fed before input out h =
+    record {
+      takes = rw (lt-leb leastRoom (length out) h);
+      stands = refl;
+      text = record { bytes = refl; end = refl };
+      inside = omega arith;
+      fits = omega arith;
+    }
 
 -- At the start.
-pub going-start : (before : SoFar) (input out : List ℕ) → Going before input out 0 before 0 out
+pub going-start : (before : SoFar) (input out : List ℕ) → leastRoom ≤ length out → Going before input out 0 before 0 out
 unfolding after printed
-going-start before input out =
+going-start before input out h =
     record {
+      room = h;
       takes = rw (sub-zero (length out)) (omega arith);
       stands = refl;
       text = record { bytes = refl; end = refl };
@@ -100,6 +114,7 @@ module _ {before current later : SoFar} {input out outCurrent outLater : List �
         text = rw texts (then (g .text) (l .text));
         inside = more-taken input taken t h made .1;
         fits = omega (arith, l .text .end);
+        room = g .room;
       }
 
 -- Without room, and at the end of the input, it stops.
@@ -108,11 +123,11 @@ module _ {before current : SoFar} {input out outCurrent : List ℕ} {taken writt
       → Feeds before input out taken current written outCurrent
   going-none g room =
       let none = none-taken (length out - written) current (drop taken input) (omega (arith, no-room outCurrent written room, same-long g)) in
-      record { takes = omega (arith, g .takes); stands = g .stands; text = g .text; inside = g .inside; fits = g .fits }
+      record { takes = rw (le-leb leastRoom (length out) (g .room)) (omega (arith, g .takes)); stands = g .stands; text = g .text; inside = g .inside; fits = g .fits }
 
   pub going-all : Going before input out taken current written outCurrent → length input ≤ taken
       → Feeds before input out taken current written outCurrent
   unfolding takenOf
   going-all g h =
       let none : takenOf (length out - written) current (drop taken input) ≡ 0 = rw (drop-of-length-le input h) in
-      record { takes = omega (arith, g .takes); stands = g .stands; text = g .text; inside = g .inside; fits = g .fits }
+      record { takes = rw (le-leb leastRoom (length out) (g .room)) (omega (arith, g .takes)); stands = g .stands; text = g .text; inside = g .inside; fits = g .fits }

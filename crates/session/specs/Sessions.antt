@@ -24,20 +24,21 @@ Begins x = (line d e : List ℕ) → soFarOf x line d e ≡ nothingRead
 abbrev pub SaysStopped : Session → Bool → Type 0
 SaysStopped x answer = (line d e : List ℕ) → answer ≡ hasStopped (soFarOf x line d e .state)
 
+-- A buffer for texts has room for two: the end of the input can print as many. With less nothing is taken, and nothing written at the end.
+abbrev pub leastRoom : ℕ
+leastRoom = 2048
+
 -- Feeding a session: how many bytes of the input it takes, what it stands for then, and what it writes from the front of the buffer for texts.
 pub record Feeds
     (before : SoFar) (input : List ℕ) (out : List ℕ) (taken : ℕ) (later : SoFar) (written : ℕ) (outLater : List ℕ) : Type 0 where
-  pub takes : taken ≡ takenOf (length out) before input
+  pub takes : taken ≡ cond (leb leastRoom (length out)) (takenOf (length out) before input) 0
   pub stands : later ≡ after before (take taken input)
   pub text : Wrote out 0 (printed before (take taken input)) outLater written
   pub inside : taken ≤ length input
   pub fits : written ≤ length out
 
--- The end of the input: what is written from the front of the buffer for texts, where two texts fit.
-abbrev pub endRoom : ℕ
-endRoom = 2048
-
+-- The end of the input: what is written from the front of the buffer for texts.
 pub record Finishes (before : SoFar) (out : List ℕ) (written : ℕ) (outLater : List ℕ) : Type 0 where
-  pub bytes : outLater ≡ cond (leb endRoom (length out)) (sets out 0 (ending before)) out
-  pub end : written ≡ cond (leb endRoom (length out)) (length (ending before)) 0
+  pub bytes : outLater ≡ cond (leb leastRoom (length out)) (sets out 0 (ending before)) out
+  pub end : written ≡ cond (leb leastRoom (length out)) (length (ending before)) 0
   pub fits : written ≤ length out

@@ -16,13 +16,13 @@ use progress::Progress;
 const KEPT_BYTES: usize = 51;
 
 // Room for the last two texts.
-const END_ROOM: usize = 2048;
+const LEAST_ROOM: usize = 2048;
 
 const NEWLINE: u8 = 10;
 
 // The progress of the lines so far, and how many bytes are held of the line that isn't complete yet. They stand at the front of a buffer that
 // the caller lends, and the month's readings at the front of two registers: lend the same ones at each call, as the call before left them.
-// Lend at least 2,048 bytes for texts: with fewer `finish` writes nothing, and with fewer than 1,024 `feed` takes nothing.
+// Lend at least 2,048 bytes for texts: with fewer `feed` takes nothing.
 pub struct Session {
     held: usize,
     progress: Progress,
@@ -177,7 +177,7 @@ impl Session {
         progress.is_stopped()
     }
 
-    // Takes bytes as long as any one text still fits into the buffer for texts.
+    // Takes bytes as long as any one text still fits into the buffer for texts; none where it has less room than for two.
     pub fn feed(
         self,
         line: &mut [u8; 51],
@@ -188,6 +188,13 @@ impl Session {
     ) -> Fed
         ensures { λ r. ⌜ Feeds (soFarOf self (now (line .entry)) (now (delivered .entry)) (now (received .entry))) (now (input .entry)) (now (out .entry)) (r .taken) (soFarOf (r .session) (now (line .exit)) (now (delivered .exit)) (now (received .exit))) (r .written) (now (out .exit)) ⌝ }
     {
+        if out.len() < LEAST_ROOM {
+            return Fed {
+                session: self,
+                taken: 0,
+                written: 0,
+            };
+        }
         let mut session = self;
         let mut taken = 0;
         let mut written = 0;
@@ -229,7 +236,7 @@ impl Session {
     ) -> usize
         ensures { λ r. ⌜ Finishes (soFarOf self (now (line .entry)) (now (delivered .entry)) (now (received .entry))) (now (out .entry)) r (now (out .exit)) ⌝ }
     {
-        if out.len() < END_ROOM {
+        if out.len() < LEAST_ROOM {
             return 0;
         }
         let progress = self.progress;

@@ -1,10 +1,14 @@
 -- What is left of the bytes that were read.
-use mathlib.Core.Path.{_≡_}
+use mathlib.Core.Path.{_≡_, _∙_}
+use mathlib.Core.Bool.{cond}
 use mathlib.Core.List.{List}
 use Prim.Native.Nat.{ℕ, _+_, _-_, _≤_, _<_}
 use native.Mathlib.Omega.{arith}
+use borrow.Author.Tests.{le-leb}
+use lib.Dec.{leb}
 use lib.ListN.{length, take, drop, length-take, length-drop}
 use Rattle.session.specs.Feeding.{SoFar, takenOf}
+use Rattle.session.specs.Sessions.{leastRoom}
 use Rattle.session.proofs.Streams.{taken-some}
 
 abbrev rest : List ℕ → ℕ → List ℕ
@@ -17,8 +21,9 @@ rest-long input taken = simp (length-take, length-drop) (omega arith)
 pub rest-within : (input : List ℕ) (taken t : ℕ) → taken < length input → t ≤ length (rest input taken) → taken + t ≤ length input
 rest-within input taken t h k = omega (arith, rest-long input taken)
 
--- and some is, where a text fits.
-pub rest-some : (input out : List ℕ) (taken t : ℕ) (x : SoFar) → taken < length input → 1024 ≤ length out
-    → t ≡ takenOf (length out) x (rest input taken) → taken < taken + t
+-- and some is, where there is room enough.
+pub rest-some : (input out : List ℕ) (taken t : ℕ) (x : SoFar) → taken < length input → leastRoom ≤ length out
+    → t ≡ cond (leb leastRoom (length out)) (takenOf (length out) x (rest input taken)) 0 → taken < taken + t
 rest-some input out taken t x h room e =
-    omega (arith, e, taken-some (length out) x (rest input taken) room (omega (arith, rest-long input taken)))
+    let f : t ≡ takenOf (length out) x (rest input taken) = e ∙ rw (le-leb leastRoom (length out) room) in
+    omega (arith, f, taken-some (length out) x (rest input taken) (omega arith) (omega (arith, rest-long input taken)))

@@ -44,7 +44,7 @@ fn give(
     input: &[u8],
     out: &mut [u8],
 ) -> Given
-    requires { ⌜ 1024 ≤ length (now out) ⌝ }
+    requires { ⌜ 2048 ≤ length (now out) ⌝ }
 {
     let mut session = session;
     let mut taken = 0;

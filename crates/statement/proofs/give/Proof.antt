@@ -1,4 +1,4 @@
--- `statement::give` ends, since a session takes at least one byte where a text fits.
+-- `statement::give` ends, since a session takes at least one byte where there is room enough for texts.
 use mathlib.Core.Path.{_≡_, refl, _∙_}
 use Prim.Native.Nat.{_≤_, _-_}
 use native.Mathlib.Omega.{arith}

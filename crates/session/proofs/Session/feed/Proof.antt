@@ -4,7 +4,7 @@ use native.Mathlib.Omega.{arith}
 use borrow.Author.Needs.{needs}
 use lib.ListN.{length}
 use Rattle.session.specs.Sessions.{soFarOf}
-use Rattle.session.proofs.Going.{Going, going-start, going-more, going-none, going-all, more-taken, same-long, room-yes, room-none}
+use Rattle.session.proofs.Going.{Going, none-fed, going-start, going-more, going-none, going-all, more-taken, same-long, room-yes, room-none}
 use Rattle.session.proofs.Session.feed.Statement.{statement}
 use Rattle.session.proofs.Session.feed.Tie as tie
 
@@ -16,8 +16,11 @@ abbrev μ-loop : tie.MeasureT-loop
 μ-loop line₀ delivered₀ received₀ input out₀ session₀ taken₀ written₀ line delivered received out session taken written =
     length input - taken
 
+returns : tie.Need-returns Inv-loop μ-loop
+returns c = none-fed _ _ _ (c .if1 .taken)
+
 loop-holds : tie.Need-loop-holds Inv-loop μ-loop
-loop-holds c = going-start _ _ _
+loop-holds c = going-start _ _ _ (c .if1 .left)
 
 has-room-requires : tie.Need-has-room-requires Inv-loop μ-loop
 has-room-requires c κs = search needs
@@ -25,8 +28,8 @@ has-room-requires c κs = search needs
 same-length : tie.Need-same-length Inv-loop μ-loop
 same-length c = same-long (c .before .before .before .before .loop .inv)
 
-returns : tie.Need-returns Inv-loop μ-loop
-returns c = going-none (c .before .before .before .before .loop .inv) (room-none _ _ _ (c .before .has-room .ensures) (c .if1 .taken))
+returns-2 : tie.Need-returns-2 Inv-loop μ-loop
+returns-2 c = going-none (c .before .before .before .before .loop .inv) (room-none _ _ _ (c .before .has-room .ensures) (c .if2 .taken))
 
 sub-take-lines : tie.Need-sub-take-lines Inv-loop μ-loop
 sub-take-lines c = omega arith
@@ -40,13 +43,13 @@ part-take-lines-end c = omega arith
 take-lines-requires : tie.Need-take-lines-requires Inv-loop μ-loop
 take-lines-requires c κs =
     let else = c .before .before .before .before .before in
-    room-yes _ _ _ (else .before .has-room .ensures) (else .if1 .left)
+    room-yes _ _ _ (else .before .has-room .ensures) (else .if2 .left)
 
 add-taken : tie.Need-add-taken Inv-loop μ-loop
 add-taken c =
     let made = c .before .before .before .before in
     let inside = made .before .before .before .before .before .before .before .before .before in
-    let start = inside .before .before .before .before in
+    let start = inside .before .before .before .before .before in
     let lines = made .take-lines in
     let input = start .args .input .now in
     let more = more-taken input (inside .before .loop .taken) (lines .result .taken) (inside .loop-test .taken) (lines .ensures) in
@@ -56,7 +59,7 @@ loop-less : tie.Need-loop-less Inv-loop μ-loop
 loop-less c =
     let made = c .before .before .before .before in
     let inside = made .before .before .before .before .before .before .before .before .before in
-    let input = inside .before .before .before .before .args .input .now in
+    let input = inside .before .before .before .before .before .args .input .now in
     let lines = made .take-lines in
     omega (arith, more-taken input (inside .before .loop .taken) (lines .result .taken) (inside .loop-test .taken) (lines .ensures))
 
@@ -68,13 +71,13 @@ loop-again c =
     let lines = made .take-lines in
     going-more {later = soFarOf (lines .result .session) (lines .last .1 .0) (lines .last .1 .1 .0) (lines .last .1 .1 .1 .0)}
     (inside .before .loop .inv) (inside .loop-test .taken)
-    (room-yes _ _ _ (else .before .has-room .ensures) (else .if1 .left)) (lines .ensures)
+    (room-yes _ _ _ (else .before .has-room .ensures) (else .if2 .left)) (lines .ensures)
 
 same-length-2 : tie.Need-same-length-2 Inv-loop μ-loop
 same-length-2 c = same-long (c .before .loop .inv)
 
-returns-2 : tie.Need-returns-2 Inv-loop μ-loop
-returns-2 c = going-all (c .before .loop .inv) (omega arith)
+returns-3 : tie.Need-returns-3 Inv-loop μ-loop
+returns-3 c = going-all (c .before .loop .inv) (omega arith)
 
 pub feed-spec : {M : Type 1} → statement M
 feed-spec =
@@ -82,10 +85,11 @@ feed-spec =
     (tie.spec
     Inv-loop
     μ-loop
+    returns
     loop-holds
     has-room-requires
     same-length
-    returns
+    returns-2
     sub-take-lines
     part-take-lines-start
     part-take-lines-end
@@ -94,4 +98,4 @@ feed-spec =
     loop-less
     loop-again
     same-length-2
-    returns-2)
+    returns-3)
