@@ -14,10 +14,11 @@ use Rattle.grammar.specs.Grammar.{runLine}
 use Rattle.numerals.specs.Reading.{numbersAs}
 use Rattle.progress.specs.declared.Run.{Run}
 use Rattle.progress.specs.declared.Progress.{Progress}
-use Rattle.progress.specs.Statement.{State, state, Month, monthOf, Outcome, outcome, nextNumber, counted, withRun, lineRead}
+use Rattle.lines.specs.Statement.{State, state, Month, monthOf, Outcome, outcome, nextNumber, counted, withRun, lineRead}
 use Rattle.progress.specs.Progressing.{stateOf, lineAt, isRun, isRunExpected, runsBytes, runsState, RunsRead}
 use Rattle.progress.specs.Ending.{runAt, ranTo}
-use Rattle.progress.proofs.Lines.{least-taken, later-run, run-yes, expected-later}
+use Rattle.progress.proofs.Lines.{least-taken}
+use Rattle.lines.proofs.Laws.{later-run, run-yes, expected-later}
 
 -- The first newline stands inside, or there is none.
 pub place-within : (l : List ℕ) → placeOf 10 l ≤ length l

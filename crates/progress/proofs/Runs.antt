@@ -4,10 +4,11 @@ use mathlib.Core.List.{List, [], _++_}
 use Prim.Native.Nat.{ℕ, _+_, _-_, _≤_, _<_, min}
 use native.Mathlib.Omega.{arith}
 use lib.ListN.{length, take, replicate, length-take}
-use Rattle.progress.specs.Statement.{State, state, Month, monthOf, outcome, withRun, runRead, fault}
+use Rattle.lines.specs.Statement.{State, state, Month, monthOf, outcome, withRun, runRead, fault}
 use Rattle.progress.specs.Progressing.{stateOf}
 use Rattle.progress.specs.declared.Progress.{Progress}
-use Rattle.progress.proofs.Lines.{least-taken, run-no, run-yes}
+use Rattle.progress.proofs.Lines.{least-taken}
+use Rattle.lines.proofs.Laws.{run-no, run-yes}
 
 -- A run that doesn't fit.
 pub run-past : (x : Progress) (d e : List ℕ) (count u v r : ℕ) → r ≡ min (x .filled) (length d) → 2976 < r + count

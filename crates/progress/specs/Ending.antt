@@ -12,7 +12,7 @@ use Rattle.grammar.specs.Grammar.{runLine}
 use Rattle.printing.specs.Writing.{Wrote}
 use Rattle.progress.specs.declared.Progress.{Progress}
 use Rattle.progress.specs.declared.Run.{Run}
-use Rattle.progress.specs.Statement.{State, state, monthOf, Outcome, placeOfLine}
+use Rattle.lines.specs.Statement.{State, state, monthOf, Outcome, placeOfLine}
 use Rattle.progress.specs.Progressing.{stateOf, lineAt, isRun}
 
 -- The same as `Reads` where a text fits.

@@ -10,7 +10,7 @@ use Rattle.text.specs.Text.{placeOf}
 use Rattle.grammar.specs.Grammar.{runLine}
 use Rattle.printing.specs.Writing.{hasRoom}
 use Rattle.progress.specs.declared.Progress.{Progress}
-use Rattle.progress.specs.Statement.{State, state, monthOf, Outcome, isUnreadable, mostReadings, runExpected, hasStopped, lineRead}
+use Rattle.lines.specs.Statement.{State, state, monthOf, Outcome, isUnreadable, mostReadings, runExpected, hasStopped, lineRead}
 
 -- The readings of the month stand at the front of the two registers.
 abbrev pub stateOf : Progress → List ℕ → List ℕ → State

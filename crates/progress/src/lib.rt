@@ -1,4 +1,4 @@
-// The lines of `statement`: what each of them changes and prints.
+// A line of `statement` is read: the progress and the registers after it, and its text.
 ghost use mathlib.Core.Path.{_≡_};
 ghost use mathlib.Core.Bool.{true};
 ghost use mathlib.Core.List.{List, _++_};
@@ -7,7 +7,7 @@ ghost use lib.ListN.{length, take, replicate};
 ghost use Rattle.grammar.specs.Grammar.{openingLine, billLine, criticalLine, runLine};
 ghost use Rattle.numerals.specs.Reading.{numbersAs};
 ghost use Rattle.printing.specs.Writing.{hasRoom, Put};
-ghost use Rattle.progress.specs.Statement.{start, nextNumber, counted, begun, fault, monthReply, opened, openingRead, billRead, criticalRead, runRead, monthEnd, runOrBillRead, expectedRead, lineRead, atEnd};
+ghost use Rattle.lines.specs.Statement.{start, nextNumber, counted, begun, fault, monthReply, opened, openingRead, billRead, criticalRead, runRead, monthEnd, runOrBillRead, expectedRead, lineRead, atEnd};
 ghost use Rattle.progress.specs.Progressing.{stateOf, StandsFor, SaysStopped, Reads, RunsRead};
 ghost use Rattle.progress.specs.Ending.{valuesWith, StandsAs, Ends, EndsAs, runAt, StandsAfter};
 use account::Account;

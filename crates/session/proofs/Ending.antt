@@ -8,11 +8,11 @@ use borrow.Author.Tests.{le-leb, lt-leb, eq-eqb, ne-eqb}
 use lib.ListN.{length, take, length-take, length-append}
 use lib.Seq.{sets, length-sets}
 use Rattle.printing.specs.Writing.{hasRoom, Wrote, Put}
-use Rattle.progress.specs.Statement.{State, lineRead, atEnd}
+use Rattle.lines.specs.Statement.{State, lineRead, atEnd}
 use Rattle.progress.specs.Progressing.{Reads}
-use Rattle.session.specs.Feeding.{SoFar, ending}
+use Rattle.lines.specs.Feeding.{SoFar, ending}
 use Rattle.session.specs.Sessions.{Finishes}
-use Rattle.session.proofs.Lines.{text-fits, end-fits}
+use Rattle.lines.proofs.Lengths.{text-fits, end-fits}
 use Rattle.session.proofs.Keeping.{least-taken}
 use Rattle.session.proofs.Going.{then}
 

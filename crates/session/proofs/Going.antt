@@ -9,10 +9,10 @@ use borrow.Author.Tests.{le-leb, lt-leb, leb-true, leb-false, not-true, not-fals
 use lib.ListN.{length, set, take, drop, length-append, length-drop, drop-of-length-le}
 use lib.Seq.{sets, length-sets, take-all, take-add, drop-drop}
 use Rattle.printing.specs.Writing.{hasRoom, Wrote}
-use Rattle.session.specs.Feeding.{SoFar, after, printed, takenOf}
+use Rattle.lines.specs.Feeding.{SoFar, after, printed, takenOf}
 use Rattle.session.specs.Sessions.{leastRoom, Feeds}
 use Rattle.session.specs.Taking.{Takes}
-use Rattle.session.proofs.Streams.{cut-text, cut-state}
+use Rattle.lines.proofs.Streams.{cut-text, cut-state}
 use Rattle.session.proofs.Taking.{none-taken}
 
 -- Two lists are written one after the other.

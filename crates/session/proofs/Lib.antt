@@ -1,9 +1,6 @@
-mod Lines
 mod Keeping
 mod Taking
 mod Turns
 mod Running
 mod Going
 mod Ending
-mod Quiet
-pub mod Streams

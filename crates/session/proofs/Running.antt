@@ -9,13 +9,13 @@ use lib.ListN.{length, take, drop, length-drop}
 use lib.Seq.{take-add, drop-drop}
 use Rattle.text.specs.Text.{placeOf}
 use Rattle.printing.specs.Writing.{Wrote}
-use Rattle.progress.specs.Statement.{State, lineRead}
+use Rattle.lines.specs.Statement.{State, lineRead}
 use Rattle.progress.specs.Progressing.{lineAt, isRunExpected, runsBytes, runsState, RunsRead}
 use Rattle.progress.proofs.RunLines.{expected-newline, run-quiet, bytes-none, state-none, bytes-more, state-more}
-use Rattle.session.specs.Feeding.{SoFar, after, printed, takenOf}
+use Rattle.lines.specs.Feeding.{SoFar, after, printed, takenOf}
 use Rattle.session.specs.Taking.{lineBytes, TakesLine, Takes, held}
-use Rattle.session.proofs.Streams.{cut-text, cut-state, newline-state, newline-text}
-use Rattle.session.proofs.Lines.{line-cut}
+use Rattle.lines.proofs.Streams.{cut-text, cut-state, newline-state, newline-text}
+use Rattle.lines.proofs.Lengths.{line-cut}
 use Rattle.session.proofs.Taking.{bytes-some, bytes-within, bytes-place, newline-last}
 use Rattle.session.proofs.Taking.{front-text, front-state, line-taken, line-text}
 use Rattle.session.proofs.Turns.{after-newline, printed-newline}

@@ -11,11 +11,11 @@ use lib.Dec.{eqb, leb}
 use lib.ListN.{length, take, drop, length-take}
 use lib.Seq.{take-all}
 use Rattle.text.specs.Text.{placeOf}
-use Rattle.progress.specs.Statement.{State, lineRead}
-use Rattle.session.specs.Feeding.{SoFar, afterByte, byteText, after, printed, takenOf}
+use Rattle.lines.specs.Statement.{State, lineRead}
+use Rattle.lines.specs.Feeding.{SoFar, afterByte, byteText, after, printed, takenOf}
 use Rattle.session.specs.Taking.{lineBytes}
-use Rattle.session.proofs.Lines.{text-fits}
-use Rattle.session.proofs.Streams.{cut-text, cut-state, newline-state, newline-text, other-state, other-text, kept-again}
+use Rattle.lines.proofs.Lengths.{text-fits}
+use Rattle.lines.proofs.Streams.{cut-text, cut-state, newline-state, newline-text, other-state, other-text, kept-again}
 
 -- Where the first newline stands.
 pub place-within : (l : List ℕ) → placeOf 10 l ≤ length l

@@ -7,11 +7,11 @@ use native.Mathlib.Omega.{arith}
 use lib.ListN.{length, take, length-take}
 use Rattle.text.specs.Text.{placeOf}
 use Rattle.printing.specs.Writing.{hasRoom, Wrote}
-use Rattle.progress.specs.Statement.{State, lineRead}
+use Rattle.lines.specs.Statement.{State, lineRead}
 use Rattle.progress.specs.Progressing.{Reads}
-use Rattle.session.specs.Feeding.{SoFar, afterByte, byteText, after, printed}
+use Rattle.lines.specs.Feeding.{SoFar, afterByte, byteText, after, printed}
 use Rattle.session.specs.Taking.{lineBytes, Keeps, TakesLine}
-use Rattle.session.proofs.Streams.{cut-text, cut-state, newline-state, newline-text}
+use Rattle.lines.proofs.Streams.{cut-text, cut-state, newline-state, newline-text}
 use Rattle.session.proofs.Taking.{place-within, bytes-all, bytes-place, newline-last, front-text, front-state}
 
 abbrev holding : List ℕ → State → SoFar

@@ -7,10 +7,10 @@ use lib.Dec.{leb}
 use lib.ListN.{length, take}
 use lib.Seq.{sets}
 use Rattle.printing.specs.Writing.{Wrote}
-use Rattle.progress.specs.Statement.{hasStopped}
+use Rattle.lines.specs.Statement.{hasStopped}
 use Rattle.progress.specs.Progressing.{stateOf}
 use Rattle.session.specs.declared.Session.{Session}
-use Rattle.session.specs.Feeding.{SoFar, nothingRead, after, printed, ending, takenOf}
+use Rattle.lines.specs.Feeding.{SoFar, nothingRead, after, printed, ending, takenOf}
 
 -- The bytes of the line that isn't complete yet stand at the front of their buffer.
 abbrev pub soFarOf : Session → List ℕ → List ℕ → List ℕ → SoFar

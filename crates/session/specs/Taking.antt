@@ -6,8 +6,8 @@ use Prim.Native.Nat.{ℕ, zero, suc, _+_, _-_, _≤_, _<_}
 use lib.Dec.{eqb}
 use lib.ListN.{length, take, drop}
 use Rattle.printing.specs.Writing.{textRoom, Wrote}
-use Rattle.progress.specs.Statement.{State}
-use Rattle.session.specs.Feeding.{keptBytes, SoFar, after, printed, takenOf}
+use Rattle.lines.specs.Statement.{State}
+use Rattle.lines.specs.Feeding.{keptBytes, SoFar, after, printed, takenOf}
 
 -- So many bytes are held after more bytes of a line.
 pub record Keeps (line : List ℕ) (held : ℕ) (bytes lineLater : List ℕ) (heldLater : ℕ) : Type 0 where

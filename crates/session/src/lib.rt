@@ -5,7 +5,7 @@ ghost use mathlib.Core.List.{[]};
 ghost use Prim.Native.Nat.{_≤_, min};
 ghost use lib.ListN.{length, take};
 ghost use Rattle.printing.specs.Writing.{hasRoom};
-ghost use Rattle.progress.specs.Statement.{lineRead};
+ghost use Rattle.lines.specs.Statement.{lineRead};
 ghost use Rattle.progress.specs.Progressing.{stateOf, Reads};
 ghost use Rattle.session.specs.Sessions.{soFarOf, Begins, SaysStopped, Feeds, Finishes};
 ghost use Rattle.session.specs.Taking.{Keeps, TakesLine, Takes, held};

@@ -7,9 +7,9 @@ use native.Mathlib.Omega.{arith}
 use borrow.Author.Tests.{le-leb}
 use lib.Dec.{leb}
 use lib.ListN.{length, take, drop, length-take, length-drop}
-use Rattle.session.specs.Feeding.{SoFar, takenOf}
+use Rattle.lines.specs.Feeding.{SoFar, takenOf}
 use Rattle.session.specs.Sessions.{leastRoom}
-use Rattle.session.proofs.Streams.{taken-some}
+use Rattle.lines.proofs.Streams.{taken-some}
 
 abbrev rest : List ℕ → ℕ → List ℕ
 rest input taken = take (length input - taken) (drop taken input)

@@ -1,5 +1,5 @@
 -- `progress::count` changes the number alone.
-use Rattle.progress.specs.Statement.{counted}
+use Rattle.lines.specs.Statement.{counted}
 use borrow.Author.Needs.{needs}
 use Rattle.progress.proofs.count.Statement.{statement}
 use Rattle.progress.proofs.count.Tie as tie

@@ -2,9 +2,10 @@
 use mathlib.Core.Path.{_∙_, ap, sym}
 use mathlib.Core.List.{[]}
 use Rattle.grammar.specs.Grammar.{criticalLine}
-use Rattle.progress.specs.Statement.{outcome}
+use Rattle.lines.specs.Statement.{outcome}
 use Rattle.progress.specs.Progressing.{stateOf}
-use Rattle.progress.proofs.Lines.{quiet, ends-by, critical-no, critical-yes}
+use Rattle.progress.proofs.Lines.{quiet, ends-by}
+use Rattle.lines.proofs.Laws.{critical-no, critical-yes}
 use borrow.Author.Needs.{needs}
 use Rattle.progress.proofs.critical_line.Statement.{statement}
 use Rattle.progress.proofs.critical_line.Tie as tie

@@ -1,6 +1,7 @@
 -- `progress::expected_line` asks what is expected in the order of the definition.
 use Rattle.progress.specs.Progressing.{stateOf}
-use Rattle.progress.proofs.Lines.{quiet, ends-by, expected-opening, expected-bill, expected-critical, expected-later, expected-none}
+use Rattle.progress.proofs.Lines.{quiet, ends-by}
+use Rattle.lines.proofs.Laws.{expected-opening, expected-bill, expected-critical, expected-later, expected-none}
 use borrow.Author.Needs.{needs}
 use Rattle.progress.proofs.expected_line.Statement.{statement}
 use Rattle.progress.proofs.expected_line.Tie as tie

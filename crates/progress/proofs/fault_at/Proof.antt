@@ -1,6 +1,6 @@
 -- `progress::fault_at` writes the number of the line, and no line is expected any more.
 use mathlib.Core.Path.{refl}
-use Rattle.progress.specs.Statement.{fault}
+use Rattle.lines.specs.Statement.{fault}
 use Rattle.progress.proofs.Lines.{puts}
 use borrow.Author.Needs.{needs}
 use Rattle.progress.proofs.fault_at.Statement.{statement}

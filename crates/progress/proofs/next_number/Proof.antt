@@ -1,6 +1,6 @@
 -- `progress::next_number` tests what the definition tests.
 use borrow.Author.Tests.{lt-ltb, le-ltb}
-use Rattle.progress.specs.Statement.{nextNumber}
+use Rattle.lines.specs.Statement.{nextNumber}
 use borrow.Author.Needs.{needs}
 use Rattle.progress.proofs.next_number.Statement.{statement}
 use Rattle.progress.proofs.next_number.Tie as tie

@@ -3,9 +3,10 @@ use mathlib.Core.Path.{_∙_, ap, sym}
 use mathlib.Core.List.{List, []}
 use Prim.Native.Nat.{ℕ, _+_}
 use Rattle.grammar.specs.Grammar.{openingLine}
-use Rattle.progress.specs.Statement.{state, outcome, opened}
+use Rattle.lines.specs.Statement.{state, outcome, opened}
 use Rattle.progress.specs.Progressing.{stateOf}
-use Rattle.progress.proofs.Lines.{quiet, ends-by, opening-no, opening-more, opening-last, values-are}
+use Rattle.progress.proofs.Lines.{quiet, ends-by, values-are}
+use Rattle.lines.proofs.Laws.{opening-no, opening-more, opening-last}
 use borrow.Author.Needs.{needs}
 use Rattle.progress.proofs.opening_line.Statement.{statement}
 use Rattle.progress.proofs.opening_line.Tie as tie

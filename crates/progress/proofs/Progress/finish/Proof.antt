@@ -1,9 +1,10 @@
 -- `progress::Progress::finish` asks what is expected in the order of the definition.
 use mathlib.Core.Path.{sym, _∙_, ap}
 use Rattle.printing.specs.Printing.{lineText}
-use Rattle.progress.specs.Statement.{atEnd}
+use Rattle.lines.specs.Statement.{atEnd}
 use Rattle.progress.specs.Progressing.{stateOf}
-use Rattle.progress.proofs.Lines.{put-nothing, puts-by, end-opened, end-stopped, end-month, end-absent}
+use Rattle.progress.proofs.Lines.{put-nothing, puts-by}
+use Rattle.lines.proofs.Laws.{end-opened, end-stopped, end-month, end-absent}
 use borrow.Author.Needs.{needs}
 use Rattle.progress.proofs.Progress.finish.Statement.{statement}
 use Rattle.progress.proofs.Progress.finish.Tie as tie

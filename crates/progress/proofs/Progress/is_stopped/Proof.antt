@@ -1,6 +1,6 @@
 -- `progress::Progress::is_stopped` makes the test of the definition.
 use mathlib.Core.Path.{refl}
-use Rattle.progress.specs.Statement.{hasStopped}
+use Rattle.lines.specs.Statement.{hasStopped}
 use Rattle.progress.proofs.Progress.is_stopped.Statement.{statement}
 use Rattle.progress.proofs.Progress.is_stopped.Tie as tie
 

@@ -3,7 +3,7 @@ use mathlib.Core.Path.{ap}
 use mathlib.Core.List.{[]}
 use lib.ListN.{replicate}
 use Rattle.account.specs.declared.Account.{Account}
-use Rattle.progress.specs.Statement.{state, monthOf}
+use Rattle.lines.specs.Statement.{state, monthOf}
 use borrow.Author.Needs.{needs}
 use Rattle.progress.proofs.Progress.start.Statement.{statement}
 use Rattle.progress.proofs.Progress.start.Tie as tie

@@ -5,7 +5,7 @@ use mathlib.Core.List.{List, []}
 use Prim.Native.Nat.{ℕ, _<_}
 use native.Mathlib.Omega.{arith}
 use borrow.Author.Tests.{ltb-true, le-ltb, ne-eqb}
-use Rattle.progress.specs.Statement.{State, Outcome, outcome, hasStopped, counted, expectedRead, lineRead, atEnd}
+use Rattle.lines.specs.Statement.{State, Outcome, outcome, hasStopped, counted, expectedRead, lineRead, atEnd}
 
 module _ (s : State) (h : hasStopped s ≡ true) where
   -- No line is expected.

@@ -12,9 +12,9 @@ use Rattle.grammar.specs.Grammar.{openingLine, billLine, criticalLine, runLine}
 use Rattle.grammar.proofs.Laws.{opening-short, bill-short, critical-short, run-short}
 use Rattle.printing.specs.Printing.{lineText}
 use Rattle.printing.proofs.Laws.{bill-fits, open-fits, line-fits}
-use Rattle.progress.specs.Statement.{State, Outcome, counted, fault, opened, openingRead, billRead, criticalRead, runRead, monthEnd, runOrBillRead}
-use Rattle.progress.specs.Statement.{expectedRead, lineRead, atEnd, billExpected, criticalExpected, runExpected, outcome, nextNumber, isUnreadable}
-use Rattle.progress.specs.Statement.{hasStopped}
+use Rattle.lines.specs.Statement.{State, Outcome, counted, fault, opened, openingRead, billRead, criticalRead, runRead, monthEnd, runOrBillRead}
+use Rattle.lines.specs.Statement.{expectedRead, lineRead, atEnd, billExpected, criticalExpected, runExpected, outcome, nextNumber, isUnreadable}
+use Rattle.lines.specs.Statement.{hasStopped}
 
 -- All lines of more than 50 bytes are read alike: they are unreadable.
 long-alike : (l m : List ℕ) (s : State) → 50 < length l → 50 < length m → lineRead l s ≡ lineRead m s

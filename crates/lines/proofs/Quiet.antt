@@ -5,9 +5,9 @@ use mathlib.Core.List.{List, [], _∷_, _++_}
 use Prim.Native.Nat.{ℕ}
 use lib.Dec.{eqb}
 use lib.ListN.{length}
-use Rattle.progress.specs.Statement.{hasStopped}
-use Rattle.progress.proofs.Stopped.{stopped-text, stopped-again, stopped-end}
-use Rattle.session.specs.Feeding.{SoFar, afterByte, byteText, after, printed, ending}
+use Rattle.lines.specs.Statement.{hasStopped}
+use Rattle.lines.proofs.Stopped.{stopped-text, stopped-again, stopped-end}
+use Rattle.lines.specs.Feeding.{SoFar, afterByte, byteText, after, printed, ending}
 
 either : {A : Type 0} (P : A → Type 0) (t : Bool) {y z : A} → P y → P z → P (cond t y z)
 either P true p q = p

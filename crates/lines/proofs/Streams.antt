@@ -7,10 +7,10 @@ use native.Mathlib.Omega.{arith}
 use borrow.Author.Tests.{ne-eqb, le-leb}
 use lib.Dec.{eqb}
 use lib.ListN.{length, take}
-use Rattle.progress.specs.Statement.{State, lineRead, atEnd, textFrom, linesFrom, statementOf}
-use Rattle.session.specs.Feeding.{SoFar, nothingRead, afterByte, byteText, after, printed, ending, takenOf, joined, piecesText, Streams}
-use Rattle.session.proofs.Lines.{line-cut}
-use Rattle.session.proofs.Quiet.{quiet}
+use Rattle.lines.specs.Statement.{State, lineRead, atEnd, textFrom, linesFrom, statementOf}
+use Rattle.lines.specs.Feeding.{SoFar, nothingRead, afterByte, byteText, after, printed, ending, takenOf, joined, piecesText, Streams}
+use Rattle.lines.proofs.Lengths.{line-cut}
+use Rattle.lines.proofs.Quiet.{quiet}
 
 pub cut-text : (x : SoFar) (bytes more : List ℕ) → printed x (bytes ++ more) ≡ printed x bytes ++ printed (after x bytes) more
 unfolding printed after

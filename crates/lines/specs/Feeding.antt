@@ -6,7 +6,7 @@ use Prim.Native.Nat.{ℕ, zero, suc, _+_, _-_}
 use lib.Dec.{eqb, leb}
 use lib.ListN.{length, take}
 use Rattle.printing.specs.Writing.{textRoom}
-use Rattle.progress.specs.Statement.{State, hasStopped, start, lineRead, atEnd, statementOf}
+use Rattle.lines.specs.Statement.{State, hasStopped, start, lineRead, atEnd, statementOf}
 
 -- No readable line has more than 50 bytes, so of a line that isn't complete yet at most 51 are kept: they tell that it is too long.
 abbrev pub keptBytes : ℕ

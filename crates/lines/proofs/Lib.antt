@@ -1,0 +1,5 @@
+pub mod Laws
+pub mod Lengths
+mod Quiet
+mod Stopped
+pub mod Streams
