@@ -5,7 +5,7 @@ use mathlib.Core.List.{List}
 use Prim.Native.Nat.{ℕ, zero, suc, _+_, _≤_, _<_}
 use native.Mathlib.Omega.{arith}
 use borrow.Author.Tests.{ne-eqb}
-use lib.Dec.{eqb, eqb→eq}
+use lib.Dec.{T, eqb, eqb→eq}
 use lib.ListN.{length, getD}
 use Rattle.calendar.specs.Calendar.{seasonOf, dayKindOf, quarterOf}
 use Rattle.calendar.specs.declared.Season.{Season}
@@ -13,20 +13,20 @@ use Rattle.calendar.specs.declared.Season.the-variants.{Winter, Summer}
 use Rattle.calendar.specs.declared.DayKind.{DayKind}
 use Rattle.calendar.specs.declared.DayKind.the-variants.{Weekday, Weekend}
 use Rattle.hours.specs.CriticalDays.{isCritical}
-use Rattle.calendar.proofs.Below.{below}
+use Rattle.calendar.proofs.Below.{all-below, below}
 use Rattle.hours.specs.Hours.{isOnPeak, windowPeriod, windows, fixedSchedule, rowStart, isPeak, periodOnDay, periodOf}
 
--- The entry of a season, a day kind and a quarter is their window.
-pub entry-is : (s : Season) (k : DayKind) (q : ℕ) → q < 96 → getD fixedSchedule (rowStart s k + q) 0 ≡ windowPeriod s k q
+-- The entry of a season, a day kind and a quarter is their window: tested for each row at once.
+row-agrees : (s : Season) (k : DayKind) → T (all-below (λ q. eqb (getD fixedSchedule (rowStart s k + q) 0) (windowPeriod s k q)) 96)
 unfolding fixedSchedule windows windowPeriod isOnPeak
-entry-is Winter Weekday q h =
-    eqb→eq _ _ (below (λ q. eqb (getD fixedSchedule (rowStart Winter Weekday + q) 0) (windowPeriod Winter Weekday q)) 96 tt q h)
-entry-is Winter Weekend q h =
-    eqb→eq _ _ (below (λ q. eqb (getD fixedSchedule (rowStart Winter Weekend + q) 0) (windowPeriod Winter Weekend q)) 96 tt q h)
-entry-is Summer Weekday q h =
-    eqb→eq _ _ (below (λ q. eqb (getD fixedSchedule (rowStart Summer Weekday + q) 0) (windowPeriod Summer Weekday q)) 96 tt q h)
-entry-is Summer Weekend q h =
-    eqb→eq _ _ (below (λ q. eqb (getD fixedSchedule (rowStart Summer Weekend + q) 0) (windowPeriod Summer Weekend q)) 96 tt q h)
+row-agrees Winter Weekday = tt
+row-agrees Winter Weekend = tt
+row-agrees Summer Weekday = tt
+row-agrees Summer Weekend = tt
+
+pub entry-is : (s : Season) (k : DayKind) (q : ℕ) → q < 96 → getD fixedSchedule (rowStart s k + q) 0 ≡ windowPeriod s k q
+entry-is s k q h =
+    eqb→eq _ _ (below (λ q. eqb (getD fixedSchedule (rowStart s k + q) 0) (windowPeriod s k q)) 96 (row-agrees s k) q h)
 
 -- A row starts at one of four places.
 pub rowStart-le : (s : Season) (k : DayKind) → rowStart s k ≤ 288

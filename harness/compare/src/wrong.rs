@@ -45,31 +45,35 @@ fn closed_as(account: Account) -> Option<Refusal> {
     refusal::of_closing(&account)
 }
 
-/// An account in which one number is read as another.
+/// A number, with one value read as another.
+fn read_as<T: PartialEq>(number: T, from: T, to: T) -> T {
+    match number == from {
+        true => to,
+        false => number,
+    }
+}
+
 fn with_carried(account: &Account, from: u64, to: u64) -> Account {
+    let carried = account.carried.map(|wh| read_as(wh, from, to));
     Account {
-        carried: account.carried.map(|wh| if wh == from { to } else { wh }),
+        carried,
         ..*account
     }
 }
 
 fn with_standing(account: &Account, from: u64, to: u64) -> Account {
-    match account.standing == from {
-        true => Account {
-            standing: to,
-            ..*account
-        },
-        false => *account,
+    let standing = read_as(account.standing, from, to);
+    Account {
+        standing,
+        ..*account
     }
 }
 
 fn with_next_month(account: &Account, from: u32, to: u32) -> Account {
-    match account.next_month == from {
-        true => Account {
-            next_month: to,
-            ..*account
-        },
-        false => *account,
+    let next_month = read_as(account.next_month, from, to);
+    Account {
+        next_month,
+        ..*account
     }
 }
 
