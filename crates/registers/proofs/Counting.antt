@@ -15,7 +15,7 @@ use Rattle.registers.specs.declared.Tally.{Tally}
 use Rattle.registers.specs.Registers.{reading, daySum, daysSum, sumOf, dayPeak, daysPeak, demandPower, someAbove, readingRefused, lengthRefused, tallyOf}
 use Rattle.registers.specs.Counting.{Room, Added, Counted}
 use Rattle.registers.proofs.Laws.{sum-none, sum-more, days-sum-none, days-sum-more, peak-none, peak-more, days-peak-none, days-peak-more}
-use Rattle.registers.proofs.Laws.{above-none, above-more, sum-le, days-sum-le, wrong-length, right-length}
+use Rattle.registers.proofs.Laws.{above-none, above-more, sum-le, days-sum-le, power-le, wrong-length, right-length}
 
 -- The count b is a, that of the first n days, with the first j readings of the next day.
 pub record DayCounted (schedule : List ℕ) (m x : ℕ) (r : List ℕ) (n : ℕ) (a : Count) (j : ℕ) (b : Count) : Type 0 where
@@ -89,6 +89,11 @@ module _ (schedule : List ℕ) (m x : ℕ) (r : List ℕ) where
     where
       fits : (p : ℕ) {v u : ℕ} → v ≡ daysSum schedule m x r p n → u ≡ v + daySum schedule m x r p n j → readingsThrough m n + j ≤ 2976 → u < 2 ^ 63
       fits p e f few = omega (arith, days-sum-le schedule m x r 4294967295 w p n, sum-le schedule m x r 4294967295 w p n j)
+
+  -- The power of a month's readings of 32 bits fits 64.
+  pub power-fits : ((i : ℕ) → reading r i ≤ 4294967295) → (a : Count) → Counted schedule m x r (daysIn m) a → 4 * a .peak < 2 ^ 64
+  unfolding demandPower
+  power-fits w a k = omega (arith, k .peak, power-le schedule m x r 4294967295 w)
 
   -- The tally of a register of the wrong length, and of one of the right length that was counted.
   pub wrong-tally : (length r ≡ monthLength m → ⊥) →

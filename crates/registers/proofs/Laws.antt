@@ -114,7 +114,7 @@ readings-within r e i = by (leb (length r) i) refl
     by true past = rw (reading-is r i, List·getD-eq-default r 0 (leb-true _ _ past)) (omega arith)
     by false reached = within-first r (length r) i e (leb-false _ _ reached)
 
--- So the demand's power has a bound (for the sums see `Totals`).
+-- The demand's power has at most four times the bound of a reading (for the sums see `Totals`).
 module _ (schedule : List ℕ) (m x : ℕ) (r : List ℕ) (bound : ℕ) (within : (i : ℕ) → reading r i ≤ bound) where
   day-peak-le : (n j : ℕ) → dayPeak schedule m x r n j ≤ bound
   unfolding dayPeak
@@ -126,9 +126,12 @@ module _ (schedule : List ℕ) (m x : ℕ) (r : List ℕ) (bound : ℕ) (within 
   days-peak-le zero = omega arith
   days-peak-le (suc n) = omega (arith, days-peak-le n, day-peak-le n (dayLength m (suc n)))
 
-pub power-within : (schedule : List ℕ) (m x : ℕ) (r : List ℕ) → readingRefused r ≡ false → demandPower schedule m x r ≤ 4000000
-unfolding demandPower
-power-within schedule m x r e = omega (arith, days-peak-le schedule m x r readingLimit (readings-within r e) (daysIn m))
+  pub power-le : demandPower schedule m x r ≤ 4 * bound
+  unfolding demandPower
+  power-le = omega (arith, days-peak-le (daysIn m))
+
+pub power-within : (schedule : List ℕ) (m x : ℕ) (r : List ℕ) → readingRefused r ≡ false → demandPower schedule m x r ≤ 4 * readingLimit
+power-within schedule m x r e = power-le schedule m x r readingLimit (readings-within r e)
 
 -- A tally's fields.
 module _ (schedule : List ℕ) (m x : ℕ) (r : List ℕ) where

@@ -29,7 +29,7 @@ struct Count {
     onpeak: u64,
     offpeak: u64,
     discount: u64,
-    peak: u32,
+    peak: u64,
     above: bool,
 }
 
@@ -42,14 +42,18 @@ fn in_period(period: u8, wanted: u8, amount: u32) -> u64
 }
 
 // The reading where its period is 0 or 1, else 0.
-fn peak_reading(period: u8, reading: u32) -> u32
+fn peak_reading(period: u8, reading: u32) -> u64
     ensures { λ r. ⌜ r ≡ cond (isPeak period) reading 0 ⌝ }
 {
-    if period <= hours::ON_PEAK { reading } else { 0 }
+    if period <= hours::ON_PEAK {
+        reading as u64
+    } else {
+        0
+    }
 }
 
-// The larger of two readings.
-fn larger(a: u32, b: u32) -> u32
+// The larger of two amounts.
+fn larger(a: u64, b: u64) -> u64
     ensures { λ r. ⌜ r ≡ max a b ⌝ }
 {
     if a < b { b } else { a }
@@ -188,7 +192,7 @@ pub fn tally_of(schedule: &[u8; 384], register: &[u32], month: u32, critical_day
         };
     }
     let count = count_month(schedule, register, month, critical_days);
-    let power = 4 * count.peak as u64;
+    let power = 4 * count.peak;
     Tally {
         wronglength: false,
         abovelimit: count.above,

@@ -1,7 +1,8 @@
 -- `registers::tally_of` refuses a register of another length, and else counts the month.
 use borrow.Author.Needs.{needs}
-use Rattle.registers.proofs.Counting.{wrong-tally, right-tally}
+use Rattle.registers.proofs.Counting.{power-fits, wrong-tally, right-tally}
 use native.Mathlib.Omega.{arith}
+use Rattle.registers.proofs.Laws.{reading-is}
 use Rattle.registers.proofs.tally_of.Statement.{statement}
 use Rattle.registers.proofs.tally_of.Tie as tie
 
@@ -14,11 +15,16 @@ returns c = wrong-tally _ _ _ _ (λ e. c .if1 .taken (omega (arith, c .before .m
 count-month-requires : tie.Need-count-month-requires
 count-month-requires c κs = search needs
 
-cast-power : tie.Need-cast-power
-cast-power c = search needs
-
 mul-power : tie.Need-mul-power
-mul-power c = search needs
+mul-power c =
+    omega (
+      arith,
+      power-fits
+          _ _ _ _
+          (λ i. rw reading-is (omega (arith, c .before .before .before .before .shared-slice-known .given i)))
+          _
+          (c .before .count-month .ensures),
+    )
 
 returns-2 : tie.Need-returns-2
 returns-2 c = right-tally _ _ _ _ _ (omega (arith, c .before .before .before .month-length .ensures)) (c .before .count-month .ensures)
@@ -26,4 +32,4 @@ returns-2 c = right-tally _ _ _ _ _ (omega (arith, c .before .before .before .mo
 pub tally-of-spec : {M : Type 1} → statement M
 tally-of-spec =
     tie.close
-    (tie.spec month-length-requires returns count-month-requires cast-power mul-power returns-2)
+    (tie.spec month-length-requires returns count-month-requires mul-power returns-2)
