@@ -13,7 +13,8 @@ use Rattle.registers.specs.Registers.{lengthRefused, readingRefused}
 use Rattle.tariff.specs.declared.Terms.{Terms}
 use Rattle.tariff.specs.declared.PriceList.{PriceList}
 use Rattle.tariff.specs.Tariff.{someOver, pricesRefused, capacityRefused, bridgeRefused}
-use Rattle.billing.specs.Billing.{carriedLimit, standingLimit, amountsOf}
+use Rattle.charges.specs.Charges.{carriedLimit, standingLimit}
+use Rattle.billing.specs.Billing.{amountsOf}
 use Rattle.refusals.specs.Table.{openingRow, repricingRow, billingRow}
 use Rattle.account.specs.declared.Stage.{Stage}
 use Rattle.account.specs.declared.Stage.the-variants.{Fresh, Open, Closed}

@@ -7,7 +7,8 @@ use lib.Dec.{ltb}
 use Rattle.calendar.specs.Calendar.{lastMonth}
 use Rattle.hours.specs.CriticalDays.{criticalRefused}
 use Rattle.registers.specs.Registers.{lengthRefused, readingRefused}
-use Rattle.billing.specs.Billing.{carriedLimit, standingLimit, amountsOf}
+use Rattle.charges.specs.Charges.{carriedLimit, standingLimit}
+use Rattle.billing.specs.Billing.{amountsOf}
 use Rattle.tariff.specs.declared.Terms.{Terms}
 use Rattle.tariff.specs.declared.PriceList.{PriceList}
 use Rattle.tariff.specs.Tariff.{someOver, pricesRefused, capacityRefused, bridgeRefused}

@@ -110,10 +110,10 @@ fn cant_arise(account: Account) -> bool
     let stage = account.stage;
     let terms = account.terms;
     let prices = account.prices;
-    if billing::some_over(billing::CARRIED_LIMIT, carried) {
+    if billing::some_over(charges::CARRIED_LIMIT, carried) {
         return true;
     }
-    if billing::STANDING_LIMIT < account.standing {
+    if charges::STANDING_LIMIT < account.standing {
         return true;
     }
     if HIGHEST_NEXT < account.next {

@@ -5,7 +5,7 @@ use mathlib.Core.Bool.{false}
 use mathlib.Core.List.{List, [], _∷_}
 use native.Mathlib.Omega.{arith}
 use borrow.Author.Tests.{le-ltb}
-use Rattle.billing.specs.Billing.{carriedLimit, standingLimit}
+use Rattle.charges.specs.Charges.{carriedLimit, standingLimit}
 use Rattle.billing.specs.Netting.{AtMost}
 use Rattle.billing.proofs.Limits.{none-over}
 use Rattle.account.specs.declared.Account.{Account}

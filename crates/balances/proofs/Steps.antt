@@ -7,8 +7,8 @@ use borrow.Author.Tests.{eqb-true}
 use lib.Dec.{eqb}
 use Rattle.hours.specs.Hours.{byPeriod}
 use Rattle.hours.specs.declared.ByPeriod.{ByPeriod}
-use Rattle.registers.specs.Registers.{sumOf, demandPower}
-use Rattle.registers.proofs.Totals.{monthMost, total-within}
+use Rattle.registers.specs.Registers.{sumOf, demandPower, monthLimit}
+use Rattle.registers.proofs.Totals.{total-within}
 use Rattle.tariff.specs.declared.Terms.{Terms}
 use Rattle.tariff.specs.declared.PriceList.{PriceList}
 use Rattle.charges.specs.Charges.{totalOf}
@@ -27,7 +27,7 @@ use Rattle.balances.proofs.Bills.{by-period-at, none-at, bill-balanced,
 -- What an account has that calls reach from the fresh one. What it holds came month by month, a cent at most for a Wh.
 pub record Reached (a : Account) : Type 0 where
   pub fresh : a .stage ≡ Fresh → totalOf (a .carried) + a .standing ≡ 0
-  pub held : totalOf (a .carried) + a .standing ≤ a .next * monthMost
+  pub held : totalOf (a .carried) + a .standing ≤ a .next * monthLimit
   pub next : a .next ≤ highestNext
   pub contents : (isOpen (a .stage) && contentsRefused (a .terms) (a .prices)) ≡ false
 

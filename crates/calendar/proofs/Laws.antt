@@ -10,7 +10,7 @@ use native.Mathlib.Omega.{arith}
 use lib.Dec.{T, leb, leb→le, eqb}
 use lib.ListN.{getD}
 use Rattle.calendar.specs.Calendar.{monthNumber, yearOf, monthOfYear, isLeap, commonDays, leapDay, daysIn, firstWeekday, weekdayOf, dayLength, quarterOf}
-use Rattle.calendar.specs.Calendar.{readingsThrough, monthLength}
+use Rattle.calendar.specs.Calendar.{readingsThrough, monthLength, mostReadings}
 use Rattle.calendar.proofs.Below.{below}
 use Rattle.calendar.proofs.Lengths.{through-is}
 
@@ -74,5 +74,5 @@ pub monthLength-is : (m : ℕ) → monthLength m ≡ readingsThrough m (daysIn m
 unfolding monthLength
 monthLength-is m = refl
 
-pub monthLength-le : (m : ℕ) → monthLength m ≤ 2976
+pub monthLength-le : (m : ℕ) → monthLength m ≤ mostReadings
 monthLength-le m = omega (arith, monthLength-is m, through-is m (daysIn m), daysIn-le m)

@@ -77,3 +77,7 @@ readingsThrough m (suc n) = readingsThrough m n + dayLength m (suc n)
 -- "A register has 96 readings for each day of the month": the length of a register of month m.
 unfoldable pub monthLength : ℕ → ℕ
 monthLength m = readingsThrough m (daysIn m)
+
+-- Our rule: no month has more readings than 31 days of 96.
+abbrev pub mostReadings : ℕ
+mostReadings = 31 * 96

@@ -23,6 +23,9 @@ pub const LAST_MONTH: u32 = 1199;
 // The quarter-hours of a day.
 const DAY_QUARTERS: usize = 96;
 
+// No month has more readings.
+pub const MOST_READINGS: usize = 31 * DAY_QUARTERS;
+
 // The year of a month.
 pub fn year(month: u32) -> u32
     ensures { λ r. ⌜ r ≡ yearOf month ⌝ }

@@ -7,7 +7,7 @@ use native.Mathlib.Nat.{add-zero, add-assoc, mul-le-mul-right, le-trans}
 use native.Mathlib.Omega.{arith}
 use lib.Dec.{eqb}
 use lib.ListN.{length}
-use Rattle.calendar.specs.Calendar.{daysIn, dayLength, readingsThrough, monthLength}
+use Rattle.calendar.specs.Calendar.{daysIn, dayLength, readingsThrough, monthLength, mostReadings}
 use Rattle.calendar.proofs.Laws.{daysIn-le, through-none, through-more, through-mono, monthLength-is, monthLength-le}
 use Rattle.hours.specs.Hours.{critical, onPeak, offPeak, discount, periodOf}
 use Rattle.registers.specs.declared.Count.{Count}
@@ -79,7 +79,7 @@ module _ (schedule : List ℕ) (m x : ℕ) (r : List ℕ) where
   pub room : ((i : ℕ) → reading r i ≤ 4294967295) → (n : ℕ) (a : Count) (j : ℕ) (b : Count) → Counted schedule m x r n a → DayCounted schedule m x r n a j b
       → n < daysIn m → j ≤ dayLength m (n + 1) → Room b
   room w n a j b k d h l =
-      let few : readingsThrough m n + j ≤ 2976 = omega (arith, in-month n j h l, monthLength-le m) in
+      let few : readingsThrough m n + j ≤ mostReadings = omega (arith, in-month n j h l, monthLength-le m) in
       record {
         critical = fits critical (k .critical) (d .critical) few;
         onpeak = fits onPeak (k .onpeak) (d .onpeak) few;
@@ -87,7 +87,7 @@ module _ (schedule : List ℕ) (m x : ℕ) (r : List ℕ) where
         discount = fits discount (k .discount) (d .discount) few;
       }
     where
-      fits : (p : ℕ) {v u : ℕ} → v ≡ daysSum schedule m x r p n → u ≡ v + daySum schedule m x r p n j → readingsThrough m n + j ≤ 2976 → u < 2 ^ 63
+      fits : (p : ℕ) {v u : ℕ} → v ≡ daysSum schedule m x r p n → u ≡ v + daySum schedule m x r p n j → readingsThrough m n + j ≤ mostReadings → u < 2 ^ 63
       fits p e f few = omega (arith, days-sum-le schedule m x r 4294967295 w p n, sum-le schedule m x r 4294967295 w p n j)
 
   -- The power of a month's readings of 32 bits fits 64.

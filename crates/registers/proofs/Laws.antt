@@ -12,10 +12,10 @@ use lib.Dec.{eqb, leb, ltb}
 use lib.ListN.{length, getD, List·getD-eq-default}
 use Rattle.calendar.specs.Calendar.{daysIn, dayLength, readingsThrough, monthLength}
 use Rattle.calendar.proofs.Booleans.{or-neither}
-use Rattle.calendar.proofs.Laws.{through-next}
+use Rattle.calendar.proofs.Laws.{through-next, monthLength-is, monthLength-le}
 use Rattle.hours.specs.Hours.{isPeak, periodOf, byPeriod}
 use Rattle.registers.specs.declared.Tally.{Tally}
-use Rattle.registers.specs.Registers.{reading, daySum, daysSum, sumOf, dayPeak, daysPeak, demandPower, readingLimit, someAbove, readingRefused, lengthRefused, tallyOf}
+use Rattle.registers.specs.Registers.{reading, daySum, daysSum, sumOf, dayPeak, daysPeak, demandPower, readingLimit, monthLimit, someAbove, readingRefused, lengthRefused, tallyOf}
 
 -- A reading is what stands at its place.
 pub reading-is : (r : List ℕ) (i : ℕ) → reading r i ≡ getD r i 0
@@ -114,7 +114,13 @@ readings-within r e i = by (leb (length r) i) refl
     by true past = rw (reading-is r i, List·getD-eq-default r 0 (leb-true _ _ past)) (omega arith)
     by false reached = within-first r (length r) i e (leb-false _ _ reached)
 
--- The demand's power has at most four times the bound of a reading (for the sums see `Totals`).
+-- So each sum of a month's register is at most what one comes to (for the four together see `Totals`).
+pub sum-within : (schedule : List ℕ) (m x : ℕ) (r : List ℕ) → readingRefused r ≡ false → (p : ℕ) → sumOf schedule m x r p ≤ monthLimit
+unfolding sumOf
+sum-within schedule m x r e p =
+    omega (arith, days-sum-le schedule m x r readingLimit (readings-within r e) p (daysIn m), monthLength-is m, monthLength-le m)
+
+-- The demand's power has at most four times the bound of a reading.
 module _ (schedule : List ℕ) (m x : ℕ) (r : List ℕ) (bound : ℕ) (within : (i : ℕ) → reading r i ≤ bound) where
   day-peak-le : (n j : ℕ) → dayPeak schedule m x r n j ≤ bound
   unfolding dayPeak

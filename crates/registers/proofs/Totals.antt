@@ -1,4 +1,4 @@
--- A reading is in at most one of the four periods, so the four sums of a register together are at most its readings' limits.
+-- A reading is in at most one of the four periods, so the four sums of a register together are at most what a month's register comes to.
 use mathlib.Core.Path.{_≡_}
 use mathlib.Core.Bool.{false, cond}
 use mathlib.Core.List.{List}
@@ -9,12 +9,8 @@ use lib.Dec.{eqb}
 use Rattle.calendar.specs.Calendar.{daysIn, dayLength, readingsThrough}
 use Rattle.calendar.proofs.Laws.{through-next, monthLength-is, monthLength-le}
 use Rattle.hours.specs.Hours.{critical, onPeak, offPeak, discount, periodOf}
-use Rattle.registers.specs.Registers.{reading, daySum, daysSum, sumOf, readingLimit, readingRefused}
+use Rattle.registers.specs.Registers.{reading, daySum, daysSum, sumOf, readingLimit, monthLimit, readingRefused}
 use Rattle.registers.proofs.Laws.{readings-within}
-
--- The most Wh of a month's register: 2,976 readings at the limit.
-abbrev pub monthMost : ℕ
-monthMost = 2976 * readingLimit
 
 -- The sum over the four periods of what each has.
 abbrev fourOf : (ℕ → ℕ) → ℕ
@@ -41,7 +37,7 @@ module _ (schedule : List ℕ) (m x : ℕ) (r : List ℕ) (bound : ℕ) (within 
   days-total-le zero = omega arith
   days-total-le (suc n) = rw (through-next m n) (omega (arith, days-total-le n, day-total-le n (dayLength m (suc n))))
 
-pub total-within : (schedule : List ℕ) (m x : ℕ) (r : List ℕ) → readingRefused r ≡ false → fourOf (sumOf schedule m x r) ≤ monthMost
+pub total-within : (schedule : List ℕ) (m x : ℕ) (r : List ℕ) → readingRefused r ≡ false → fourOf (sumOf schedule m x r) ≤ monthLimit
 unfolding sumOf
 total-within schedule m x r e =
     omega (

@@ -5,7 +5,7 @@ use mathlib.Core.List.{List}
 use Prim.Native.Nat.{ℕ, zero, suc, _+_, _*_, max}
 use lib.Dec.{eqb, ltb}
 use lib.ListN.{length, getD}
-use Rattle.calendar.specs.Calendar.{daysIn, dayLength, readingsThrough, monthLength}
+use Rattle.calendar.specs.Calendar.{daysIn, dayLength, readingsThrough, monthLength, mostReadings}
 use Rattle.hours.specs.Hours.{isPeak, periodOf, byPeriod}
 use Rattle.registers.specs.declared.Tally.{Tally}
 
@@ -48,6 +48,10 @@ module _ (schedule : List ℕ) (m x : ℕ) (r : List ℕ) where
 -- "each reading at most 1,000,000"
 abbrev pub readingLimit : ℕ
 readingLimit = 1000000
+
+-- Our rule: what a month's register comes to at most, in Wh.
+abbrev pub monthLimit : ℕ
+monthLimit = mostReadings * readingLimit
 
 -- Whether one of the first i readings is above the limit.
 unfoldable pub someAbove : List ℕ → ℕ → Bool

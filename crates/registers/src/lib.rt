@@ -14,6 +14,9 @@ use hours::ByPeriod;
 // The largest reading that is accepted, in Wh.
 const READING_LIMIT: u32 = 1_000_000;
 
+// The most Wh that a month's register comes to.
+pub const MONTH_LIMIT: u64 = calendar::MOST_READINGS as u64 * READING_LIMIT as u64;
+
 // All that a bill reads from one register: whether its length is wrong or a reading above the limit, the sums by period, and
 // the power in W that the demand line prices.
 pub struct Tally {
