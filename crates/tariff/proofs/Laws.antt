@@ -12,7 +12,7 @@ use Rattle.tariff.specs.declared.Class.the-variants.{Home, Business}
 use Rattle.tariff.specs.declared.Terms.{Terms}
 use Rattle.tariff.specs.declared.PriceList.{PriceList}
 use Rattle.tariff.specs.Tariff.{priceLimit, amountLimit, someOver, ninePrices, pricesRise, pricesRefused}
-use Rattle.tariff.specs.Tariff.{nameplateOf, classLimit, capacityRefused}
+use Rattle.tariff.specs.Tariff.{nameplateOf, someBelowOne, classLimit, capacityLimit, capacityRefused}
 
 -- Where neither of two tests is true, each is false.
 or-left : (a b : Bool) → (a || b) ≡ false → a ≡ false
@@ -77,26 +77,33 @@ within-limits l h =
       discount-falls = ltb-false _ _ (or-right (onpeak || offpeak) discount order);
     }
 
-classLimit-le : (k : Class) → classLimit k ≤ 1000000
+-- No limit beside the demand limit is above that of a business.
+classLimit-le : (k : Class) → classLimit k ≤ classLimit Business
 classLimit-le Home = omega arith
 classLimit-le Business = omega arith
 
--- An accepted nameplate is from 1 W up to the demand limit and the largest limit of a class.
+pub capacityLimit-le : (t : Terms) → capacityLimit t ≤ classLimit Business
+unfolding capacityLimit
+capacityLimit-le t = classLimit-le (t .class)
+
+-- An accepted nameplate is from 1 W up to the demand limit and the limit beside it, and so up to the limit of a business.
 pub record NameplateWithin (t : Terms) : Type 0 where
   pub least : 1 ≤ nameplateOf t
-  pub most : nameplateOf t ≤ 1000000
   pub demand : nameplateOf t ≤ t .limit
+  pub capacity : nameplateOf t ≤ capacityLimit t
+  pub most : nameplateOf t ≤ classLimit Business
 
 pub nameplate-within : (t : Terms) → capacityRefused t ≡ false → NameplateWithin t
-unfolding capacityRefused
+unfolding capacityRefused someBelowOne nameplateOf
 nameplate-within t h =
-    let least : Bool = ltb (nameplateOf t) 1 in
+    let least : Bool = someBelowOne t in
     let demand : Bool = ltb (t .limit) (nameplateOf t) in
-    let class : Bool = ltb (classLimit (t .class)) (nameplateOf t) in
+    let class : Bool = ltb (capacityLimit t) (nameplateOf t) in
     let both : (least || demand) ≡ false = or-left (least || demand) class h in
-    let below : nameplateOf t ≤ classLimit (t .class) = ltb-false _ _ (or-right (least || demand) class h) in
+    let capacity : nameplateOf t ≤ capacityLimit t = ltb-false _ _ (or-right (least || demand) class h) in
     record {
       least = ltb-false _ _ (or-left least demand both);
-      most = omega (arith, below, classLimit-le (t .class));
       demand = ltb-false _ _ (or-right least demand both);
+      capacity = capacity;
+      most = omega (arith, capacity, capacityLimit-le t);
     }

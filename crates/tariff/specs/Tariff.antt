@@ -40,18 +40,26 @@ unfoldable pub pricesRefused : PriceList → Bool
 pricesRefused l =
     someOver priceLimit (ninePrices l) || someOver amountLimit (l .basic ∷ l .minimum ∷ []) || pricesRise (l .energy)
 
--- The nameplate that each rule speaks of, in W.
+-- The nameplate that each limit and each line speaks of, in W.
 unfoldable pub nameplateOf : Terms → ℕ
 nameplateOf t = t .nameplate
+
+-- "The nameplate is 1 W up to ..": whether one is less.
+unfoldable pub someBelowOne : Terms → Bool
+someBelowOne t = ltb (t .nameplate) 1
 
 -- "up to 20,000 W for a home or 1,000,000 W for a business"
 abbrev pub classLimit : Class → ℕ
 classLimit Home = 20000
 classLimit Business = 1000000
 
--- Refusal 5: "nameplate outside its limits", which are "1 W up to the demand limit" and the class limit.
+-- The limit beside the demand limit: that of the class.
+unfoldable pub capacityLimit : Terms → ℕ
+capacityLimit t = classLimit (t .class)
+
+-- Refusal 5: "nameplate outside its limits", which are "1 W up to the demand limit, and also up to" the limit beside it.
 unfoldable pub capacityRefused : Terms → Bool
-capacityRefused t = ltb (nameplateOf t) 1 || ltb (t .limit) (nameplateOf t) || ltb (classLimit (t .class)) (nameplateOf t)
+capacityRefused t = someBelowOne t || ltb (t .limit) (nameplateOf t) || ltb (capacityLimit t) (nameplateOf t)
 
 -- "Terms: rider (banked or bridge), class (home or business)": each as a test.
 abbrev pub isBanked : Rider → Bool

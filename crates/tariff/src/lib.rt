@@ -3,7 +3,7 @@ ghost use mathlib.Core.Path.{_≡_};
 ghost use mathlib.Core.Bool.{_||_};
 ghost use mathlib.Core.List.{[], _∷_};
 ghost use Rattle.tariff.specs.Tariff.{priceLimit, amountLimit, someOver, pricesRise, pricesRefused, nameplateOf, classLimit};
-ghost use Rattle.tariff.specs.Tariff.{capacityRefused, bridgeRefused, isBanked, isBridge, isBusiness};
+ghost use Rattle.tariff.specs.Tariff.{someBelowOne, capacityLimit, capacityRefused, bridgeRefused, isBanked, isBridge, isBusiness};
 use hours::ByPeriod;
 
 // The banked rider (Rider NM) and the bridge rider (Rider NMB).
@@ -47,7 +47,7 @@ const HOME_LIMIT: u64 = 20_000;
 
 const BUSINESS_LIMIT: u64 = 1_000_000;
 
-// The nameplate that each rule speaks of, in W.
+// The nameplate that each limit and each line speaks of, in W.
 pub fn nameplate_of(terms: Terms) -> u64
     ensures { λ r. ⌜ r ≡ nameplateOf terms ⌝ }
 {
@@ -89,6 +89,22 @@ pub fn class_limit(class: Class) -> u64
         Class::Home => HOME_LIMIT,
         Class::Business => BUSINESS_LIMIT,
     }
+}
+
+// Whether a nameplate is below 1 W.
+fn some_below_one(terms: Terms) -> bool
+    ensures { λ r. ⌜ r ≡ someBelowOne terms ⌝ }
+{
+    let nameplate = terms.nameplate;
+    nameplate < 1
+}
+
+// The largest nameplate beside the demand limit, in W.
+fn capacity_limit(terms: Terms) -> u64
+    ensures { λ r. ⌜ r ≡ capacityLimit terms ⌝ }
+{
+    let class = terms.class;
+    class_limit(class)
 }
 
 // Whether an energy price is above its limit or above the one before. The first is the dearest where none is above the one before.
@@ -154,15 +170,14 @@ pub fn prices_refused(prices: PriceList) -> bool
 pub fn capacity_refused(terms: Terms) -> bool
     ensures { λ r. ⌜ r ≡ capacityRefused terms ⌝ }
 {
-    let class = terms.class;
-    let nameplate = nameplate_of(terms);
-    if nameplate < 1 {
+    if some_below_one(terms) {
         return true;
     }
+    let nameplate = nameplate_of(terms);
     if terms.limit < nameplate {
         return true;
     }
-    class_limit(class) < nameplate
+    capacity_limit(terms) < nameplate
 }
 
 // Whether the rider is refused (number 6).
