@@ -62,7 +62,7 @@ pub record WallChart : Type 0 where
   pub b-in : sharedOf (amounts 0 0 0 7) (amounts 3 0 0 0) .into ≡ none
   pub c : cents 499999 ≡ 0
   pub d : cents 500000 ≡ 1
-  pub e : grantedOf chartPrices (offPeakOnly 10000) ≡ 34
+  pub e : grantedOf (bridgeHome false 8000) chartPrices (offPeakOnly 10000) ≡ 34
   pub f : shortfallLine (bridgeHome false 8000) chartPrices (offPeakOnly 100000) ≡ 351
   pub g : shortfallLine (bridgeHome true 8000) chartPrices (offPeakOnly 100000) ≡ 0
   pub h : shortfallLine (bridgeHome true 8001) chartPrices (offPeakOnly 100000) ≡ 351
