@@ -5,19 +5,18 @@ use Prim.Native.Nat.{ℕ, _+_, _≤_, _<_}
 use native.Mathlib.Omega.{arith}
 use Rattle.hours.specs.Hours.{byPeriod}
 use Rattle.hours.specs.declared.ByPeriod.{ByPeriod}
-use Rattle.sharing.specs.Sharing.{sharedOf}
 use Rattle.sharing.specs.declared.Shared.{Shared}
 use Rattle.sharing.proofs.Moves.{Sums}
-use Rattle.sharing.proofs.Laws.{spent, met, conserved, dear-spent}
+use Rattle.tariff.specs.declared.Rider.{Rider}
 use Rattle.tariff.specs.declared.Terms.{Terms}
 use Rattle.tariff.specs.declared.PriceList.{PriceList}
 use Rattle.tariff.specs.Tariff.{pricesRefused}
 use Rattle.charges.specs.Charges.{totalOf}
 use Rattle.charges.proofs.Laws.{settled, granted-le}
-use Rattle.billing.specs.Billing.{none, each, keptBy, nettedOf, paidOf, billFrom}
+use Rattle.billing.specs.Billing.{none, each, keptBy, nettedOf, sharedUnder, paidOf, billFrom}
 use Rattle.billing.specs.declared.Bill.{Bill}
 use Rattle.billing.specs.declared.Netted.{Netted}
-use Rattle.billing.proofs.Laws.{OwnSpent, carried-sums, unspent-sums, credit-sums, need-sums, own-spent}
+use Rattle.billing.proofs.Laws.{OwnSpent, carried-sums, credit-sums, need-sums, own-spent, spent-under, met-under, conserved-under, dear-spent-under, unspent-sums}
 use Rattle.balances.specs.Balances.{Period, Critical, OnPeak, OffPeak, Discount, numberOf, amountOf}
 
 -- Laws of the four periods, said of one.
@@ -60,27 +59,27 @@ pub record BillBalanced (carried : ByPeriod) (standing : ℕ) (deliveries export
       → (amountOf q (b .left) ≡ 0) × (amountOf q (b .paid) ≡ 0)
 
 -- Where a period is charged for, no credit is unspent there and in each dearer period.
-module _ (credit need : ByPeriod) (o : OwnSpent need credit) where
-  own-unspent : (p : Period) → 0 < amountOf p (sharedOf credit need .billed) → amountOf p (sharedOf credit need .unspent) ≡ 0
-  own-unspent p h = omega (arith, sums-at p (spent credit need), own-at p o (omega (arith, sums-at p (met credit need))))
+module _ (rider : Rider) (credit need : ByPeriod) (o : OwnSpent need credit) where
+  own-unspent : (p : Period) → 0 < amountOf p (sharedUnder rider credit need .billed) → amountOf p (sharedUnder rider credit need .unspent) ≡ 0
+  own-unspent p h = omega (arith, sums-at p (spent-under rider credit need), own-at p o (omega (arith, sums-at p (met-under rider credit need))))
 
-  dear-unspent : (p q : Period) → 0 < amountOf p (sharedOf credit need .billed) → numberOf q ≤ numberOf p
-      → amountOf q (sharedOf credit need .unspent) ≡ 0
+  dear-unspent : (p q : Period) → 0 < amountOf p (sharedUnder rider credit need .billed) → numberOf q ≤ numberOf p
+      → amountOf q (sharedUnder rider credit need .unspent) ≡ 0
   dear-unspent Critical Critical h d = own-unspent Critical h
   dear-unspent Critical OnPeak h d = omega arith
   dear-unspent Critical OffPeak h d = omega arith
   dear-unspent Critical Discount h d = omega arith
-  dear-unspent OnPeak Critical h d = dear-spent credit need .onpeakCritical h
+  dear-unspent OnPeak Critical h d = dear-spent-under rider credit need .onpeakCritical h
   dear-unspent OnPeak OnPeak h d = own-unspent OnPeak h
   dear-unspent OnPeak OffPeak h d = omega arith
   dear-unspent OnPeak Discount h d = omega arith
-  dear-unspent OffPeak Critical h d = dear-spent credit need .offpeakCritical h
-  dear-unspent OffPeak OnPeak h d = dear-spent credit need .offpeakOnpeak h
+  dear-unspent OffPeak Critical h d = dear-spent-under rider credit need .offpeakCritical h
+  dear-unspent OffPeak OnPeak h d = dear-spent-under rider credit need .offpeakOnpeak h
   dear-unspent OffPeak OffPeak h d = own-unspent OffPeak h
   dear-unspent OffPeak Discount h d = omega arith
-  dear-unspent Discount Critical h d = dear-spent credit need .discountCritical h
-  dear-unspent Discount OnPeak h d = dear-spent credit need .discountOnpeak h
-  dear-unspent Discount OffPeak h d = dear-spent credit need .discountOffpeak h
+  dear-unspent Discount Critical h d = dear-spent-under rider credit need .discountCritical h
+  dear-unspent Discount OnPeak h d = dear-spent-under rider credit need .discountOnpeak h
+  dear-unspent Discount OffPeak h d = dear-spent-under rider credit need .discountOffpeak h
   dear-unspent Discount Discount h d = own-unspent Discount h
 
 module _ (t : Terms) (l : PriceList) (carried : ByPeriod) (standing m : ℕ) (delivered exported : ByPeriod) (power : ℕ) where
@@ -89,7 +88,7 @@ module _ (t : Terms) (l : PriceList) (carried : ByPeriod) (standing m : ℕ) (de
   bill-balanced =
       let kept : ByPeriod = keptBy (t .rider) m carried in
       let n : Netted = nettedOf kept delivered exported in
-      let s : Shared = sharedOf (n .credit) (n .need) in
+      let s : Shared = sharedUnder (t .rider) (n .credit) (n .need) in
       record {
         exported = λ p.
             omega (
@@ -97,13 +96,13 @@ module _ (t : Terms) (l : PriceList) (carried : ByPeriod) (standing m : ℕ) (de
               sums-at p (carried-sums (t .rider) m carried),
               sums-at p (credit-sums kept delivered exported),
               each-at p kept exported,
-              sums-at p (spent (n .credit) (n .need)),
+              sums-at p (spent-under (t .rider) (n .credit) (n .need)),
               sums-at p (unspent-sums (t .rider) (s .unspent)),
             );
-        delivered = λ p. omega (arith, sums-at p (need-sums kept delivered exported), sums-at p (met (n .credit) (n .need)));
-        moved = conserved (n .credit) (n .need);
+        delivered = λ p. omega (arith, sums-at p (need-sums kept delivered exported), sums-at p (met-under (t .rider) (n .credit) (n .need)));
+        moved = conserved-under (t .rider) (n .credit) (n .need);
         money = omega (arith, settled t l (s .billed) (paidOf (t .rider) (s .unspent)) power standing .funds);
-        charged = λ p q h d. omega (arith, sums-at q (unspent-sums (t .rider) (s .unspent)), dear-unspent (n .credit) (n .need) (own-spent kept delivered exported) p q h d);
+        charged = λ p q h d. omega (arith, sums-at q (unspent-sums (t .rider) (s .unspent)), dear-unspent (t .rider) (n .credit) (n .need) (own-spent kept delivered exported) p q h d);
       }
 
   -- A bill adds at most the month's export to what is carried and stands, since a Wh that is paid grants at most a cent.

@@ -8,12 +8,12 @@ use Rattle.registers.specs.Registers.{reading, daySum, daysSum, sumOf}
 use Rattle.sharing.specs.Sharing.{movesOf, sharedOf}
 use Rattle.tariff.specs.Tariff.{nameplateOf}
 use Rattle.charges.specs.Charges.{cents, standbyLine, isExempt, shortfallLine, grantedOf}
-use Rattle.billing.specs.Billing.{resets, forfeitedBy, keptBy, nettedOf, leftOf, paidOf, billFrom}
+use Rattle.billing.specs.Billing.{resets, forfeitedBy, keptBy, nettedOf, sharedUnder, leftOf, paidOf, billFrom}
 use Rattle.chart.specs.Chart.{WallChart}
 
 pub wall-chart : WallChart
 unfolding
-    movesOf sharedOf cents grantedOf shortfallLine standbyLine isExempt nameplateOf isLeap leapDay daysIn firstWeekday weekdayOf dayKindOf seasonOf dayLength quarterOf readingsThrough monthLength isCritical isOnPeak windowPeriod windows fixedSchedule periodOnDay periodOf reading daySum daysSum sumOf resets forfeitedBy keptBy nettedOf leftOf paidOf billFrom
+    movesOf sharedOf cents grantedOf shortfallLine standbyLine isExempt nameplateOf isLeap leapDay daysIn firstWeekday weekdayOf dayKindOf seasonOf dayLength quarterOf readingsThrough monthLength isCritical isOnPeak windowPeriod windows fixedSchedule periodOnDay periodOf reading daySum daysSum sumOf resets forfeitedBy keptBy nettedOf sharedUnder leftOf paidOf billFrom
 wall-chart =
     record {
       a-out = refl;
