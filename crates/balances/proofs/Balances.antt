@@ -1,4 +1,4 @@
--- Demand 3: the balances of one call add up over a list, and the fresh account carries nothing and has nothing standing.
+-- Demand 3: the balances of one call add up over a list, and a fresh account carries nothing and has nothing standing.
 use mathlib.Core.Path.{_≡_, refl}
 use mathlib.Core.List.{List, [], _∷_}
 use Prim.Native.Nat.{_+_}
@@ -7,7 +7,7 @@ use Rattle.account.specs.declared.Account.{Account}
 use Rattle.account.specs.Account.{freshAccount}
 use Rattle.balances.specs.Calls.{Call, accountAfter, answersOf, lastOf}
 use Rattle.balances.specs.Balances.{Period, amountOf, totalBy, billTotal, allPeriods, forfeitedTotal, deliveredBy, exportedBy, registerTotal}
-use Rattle.balances.specs.Balances.{Each, ChargedLast, Balanced}
+use Rattle.balances.specs.Balances.{Each, ChargedLast, StartsFresh, Balanced}
 use Rattle.balances.proofs.Bills.{none-at}
 use Rattle.balances.proofs.Steps.{Reached, fresh-reached, StepOf, step}
 
@@ -49,13 +49,17 @@ balanced-from a (c ∷ cs) r =
       charged = (s .charged, t .charged);
     }
 
-pub balanced : (cs : List Call) → Balanced cs
-balanced cs =
-    let t : BalancedFrom freshAccount cs = balanced-from freshAccount cs fresh-reached in
+pub balanced : (a : Account) → StartsFresh a → (cs : List Call) → Balanced a cs
+balanced a f cs =
+    let t : BalancedFrom a cs = balanced-from a cs (fresh-reached a f) in
     record {
-      exported = λ p. omega (arith, t .exported p, none-at p);
+      exported = λ p. let z : amountOf p (a .carried) ≡ 0 = rw (f .carried) (none-at p) in omega (arith, t .exported p);
       delivered = t .delivered;
       moved = t .moved;
-      money = omega (arith, t .money);
+      money = omega (arith, t .money, f .standing);
       charged = t .charged;
     }
+
+-- The account that is 0 in everything is a case.
+pub starts-fresh : StartsFresh freshAccount
+starts-fresh = record { stage = refl; carried = refl; standing = refl }

@@ -17,26 +17,32 @@ use Rattle.account.specs.declared.Stage.the-variants.{Fresh}
 use Rattle.account.specs.declared.Account.{Account}
 use Rattle.account.specs.declared.ClosingAmounts.{ClosingAmounts}
 use Rattle.account.specs.Refusals.{isOpen, highestNext, contentsRefused, openingNumber, repricingNumber, billingNumber, closingNumber}
-use Rattle.account.specs.Account.{freshAccount, noAmounts, scheduleOf, billOf, openingReply, repricingReply, billingReply, closingReply}
+use Rattle.account.specs.Account.{noAmounts, scheduleOf, billOf, openingReply, repricingReply, billingReply, closingReply}
 use Rattle.account.proofs.Accepted.{contents-accepted, opening-accepted, repricing-accepted, billing-accepted}
 use Rattle.records.specs.declared.Answer.{Answer}
 use Rattle.balances.specs.Calls.{Call, opening, repricing, billing, closing, answerOf, accountAfter}
-use Rattle.balances.specs.Balances.{Period, Critical, OnPeak, OffPeak, Discount, amountOf, deliveredBy, exportedBy, ChargedLast}
+use Rattle.balances.specs.Balances.{Period, Critical, OnPeak, OffPeak, Discount, amountOf, deliveredBy, exportedBy, ChargedLast, StartsFresh}
 use Rattle.balances.proofs.Bills.{by-period-at, none-at, bill-balanced, bill-held}
 
--- What an account has that calls reach from the fresh one. What it holds came month by month, a cent at most for a Wh.
+-- What an account has that calls reach from a fresh one. What it holds came month by month, a cent at most for a Wh.
 pub record Reached (a : Account) : Type 0 where
   pub fresh : a .stage ≡ Fresh → totalOf (a .carried) + a .standing ≡ 0
   pub held : totalOf (a .carried) + a .standing ≤ a .next * monthLimit
-  pub next : a .next ≤ highestNext
   pub contents : (isOpen (a .stage) && contentsRefused (a .terms) (a .prices)) ≡ false
 
-pub fresh-reached : Reached freshAccount
-fresh-reached = record { fresh = λ e. refl; held = omega arith; next = omega arith; contents = refl }
+pub fresh-reached : (a : Account) → StartsFresh a → Reached a
+fresh-reached a f =
+    record {
+      fresh = λ e. rw (f .carried, f .standing);
+      held = rw (f .carried, f .standing) (omega arith);
+      contents = rw (f .stage);
+    }
 
--- From account a to account b with answer x, where the registers brought those Wh: b is reached, and the amounts balance.
+-- From account a to account b with answer x, where the registers brought those Wh: b is reached, its next month is no further than it may be
+-- unless that of a was, and the amounts balance.
 pub record Step (a : Account) (x : Answer) (exportedWh deliveredWh : Period → ℕ) (b : Account) : Type 0 where
   pub reached : Reached b
+  pub next : a .next ≤ highestNext → b .next ≤ highestNext
   pub exported : (p : Period) →
       exportedWh p + amountOf p (a .carried)
       ≡ amountOf p (x .bill .own) + amountOf p (x .bill .out) + amountOf p (x .bill .paid)
@@ -58,12 +64,14 @@ StepOf a c =
 
 -- Without a bill, what the account held is in the closing's amounts or still there.
 unbilled : {a b : Account} {n : ℕ} {y : ClosingAmounts} → Reached b
+    → (a .next ≤ highestNext → b .next ≤ highestNext)
     → ((p : Period) → amountOf p (a .carried) ≡ amountOf p (y .forfeited) + amountOf p (b .carried))
     → a .standing ≡ y .refunded + b .standing
     → Step a (record { number = n; bill = noBill; amounts = y }) (λ p. 0) (λ p. 0) b
-unbilled r e f =
+unbilled r h e f =
     record {
       reached = r;
+      next = h;
       exported = λ p. omega (arith, none-at p, e p);
       delivered = λ p. omega (arith, none-at p);
       moved = refl;
@@ -72,7 +80,7 @@ unbilled r e f =
     }
 
 refused : {a : Account} {n : ℕ} → Reached a → Step a (record { number = n; bill = noBill; amounts = noAmounts }) (λ p. 0) (λ p. 0) a
-refused r = unbilled r (λ p. omega (arith, none-at p)) (omega arith)
+refused r = unbilled r (λ h. h) (λ p. omega (arith, none-at p)) (omega arith)
 
 amount-le : (p : Period) (a : ByPeriod) → amountOf p a ≤ totalOf a
 amount-le Critical a = omega arith
@@ -97,7 +105,8 @@ step a (opening t l m) r =
     let empty = r .fresh (k .stage) in
     rw e
     (unbilled
-    (record { fresh = λ f. refl; held = omega arith; next = omega (arith, k .month); contents = contents-accepted t l (k .holds) })
+    (record { fresh = λ f. refl; held = omega arith; contents = contents-accepted t l (k .holds) })
+    (λ h. omega (arith, k .month))
     (λ p. omega (arith, amount-le p (a .carried), none-at p))
     (omega arith)))
     (λ e. rw e (refused r))
@@ -107,7 +116,8 @@ step a (repricing l) r =
     let (k, holds) = repricing-accepted a l (eqb-true _ _ e) in
     rw e
     (unbilled
-    (record { fresh = r .fresh; held = r .held; next = r .next; contents = rw (k .stage) (contents-accepted (a .terms) l holds) })
+    (record { fresh = r .fresh; held = r .held; contents = rw (k .stage) (contents-accepted (a .terms) l holds) })
+    (λ h. h)
     (λ p. omega (arith, none-at p))
     (omega arith)))
     (λ e. rw e (refused r))
@@ -126,9 +136,9 @@ step a (billing m delivered received x) r =
           record {
             fresh = λ f. cc (k .account .stage);
             held = omega (arith, r .held, most, total-within (scheduleOf a) m x received (k .received-readings));
-            next = omega (arith, k .next);
             contents = r .contents;
           };
+      next = λ h. omega (arith, k .next);
       exported = λ p. omega (arith, s .exported p, by-period-at p (sumOf (scheduleOf a) m x received), none-at p);
       delivered = λ p. omega (arith, s .delivered p, by-period-at p (sumOf (scheduleOf a) m x delivered));
       moved = s .moved;
@@ -141,7 +151,8 @@ step a closing r =
     (λ e.
     rw e
     (unbilled
-    (record { fresh = λ f. refl; held = omega arith; next = r .next; contents = refl })
+    (record { fresh = λ f. refl; held = omega arith; contents = refl })
+    (λ h. h)
     (λ p. omega (arith, none-at p))
     (omega arith)))
     (λ e. rw e (refused r))

@@ -1,4 +1,4 @@
--- Demand 3: the balances over every list of calls from the fresh account, refused ones included. "In every period exported = own + moved out +
+-- Demand 3: the balances over every list of calls from a fresh account, refused ones included. "In every period exported = own + moved out +
 -- paid + forfeited + left and delivered = own + moved in + billed; summed, moved out = moved in; granted = used + refunded + standing; every bill
 -- that charges a watt-hour in a period has left 0 and paid 0 there and in each dearer period." Document 01 says of the totals: "each total of
 -- demand 3 is a sum over the answers returned: forfeited from bills and closings, refunded from closings, the others from bills. Exported and
@@ -12,9 +12,11 @@ use lib.Dec.{eqb}
 use Rattle.hours.specs.Hours.{critical, onPeak, offPeak, discount}
 use Rattle.hours.specs.declared.ByPeriod.{ByPeriod}
 use Rattle.registers.specs.Registers.{sumOf}
+use Rattle.billing.specs.Billing.{none}
 use Rattle.billing.specs.declared.Bill.{Bill}
+use Rattle.account.specs.declared.Stage.the-variants.{Fresh}
 use Rattle.account.specs.declared.Account.{Account}
-use Rattle.account.specs.Account.{freshAccount, scheduleOf}
+use Rattle.account.specs.Account.{scheduleOf}
 use Rattle.records.specs.declared.Answer.{Answer}
 use Rattle.balances.specs.Calls.{Call, opening, repricing, billing, closing, answerOf, accountAfter, answersOf, lastOf}
 
@@ -83,25 +85,31 @@ ChargedLast x =
     (p q : Period) → 0 < amountOf p (x .bill .billed) → numberOf q ≤ numberOf p
     → (amountOf q (x .bill .left) ≡ 0) × (amountOf q (x .bill .paid) ≡ 0)
 
--- The balances of a list from the fresh account.
-pub record Balanced (cs : List Call) : Type 0 where
+-- "The fresh account that a list starts from has 0 carried and 0 standing." Our reading: its terms, price list and next month may be anything.
+pub record StartsFresh (a : Account) : Type 0 where
+  pub stage : a .stage ≡ Fresh
+  pub carried : a .carried ≡ none
+  pub standing : a .standing ≡ 0
+
+-- The balances of a list from account a, which hold where a starts fresh.
+pub record Balanced (a : Account) (cs : List Call) : Type 0 where
   -- "exported = own + moved out + paid + forfeited + left"
   pub exported : (p : Period) →
-      registerTotal (exportedBy p) freshAccount cs
-      ≡ billTotal p (λ b. b .own) (answersOf freshAccount cs) + billTotal p (λ b. b .out) (answersOf freshAccount cs)
-      + billTotal p (λ b. b .paid) (answersOf freshAccount cs) + forfeitedTotal p (answersOf freshAccount cs)
-      + amountOf p (lastOf freshAccount cs .carried)
+      registerTotal (exportedBy p) a cs
+      ≡ billTotal p (λ b. b .own) (answersOf a cs) + billTotal p (λ b. b .out) (answersOf a cs)
+      + billTotal p (λ b. b .paid) (answersOf a cs) + forfeitedTotal p (answersOf a cs)
+      + amountOf p (lastOf a cs .carried)
   -- "delivered = own + moved in + billed"
   pub delivered : (p : Period) →
-      registerTotal (deliveredBy p) freshAccount cs
-      ≡ billTotal p (λ b. b .own) (answersOf freshAccount cs) + billTotal p (λ b. b .into) (answersOf freshAccount cs)
-      + billTotal p (λ b. b .billed) (answersOf freshAccount cs)
+      registerTotal (deliveredBy p) a cs
+      ≡ billTotal p (λ b. b .own) (answersOf a cs) + billTotal p (λ b. b .into) (answersOf a cs)
+      + billTotal p (λ b. b .billed) (answersOf a cs)
   -- "summed, moved out = moved in"
-  pub moved : allPeriods (λ b. b .out) (answersOf freshAccount cs) ≡ allPeriods (λ b. b .into) (answersOf freshAccount cs)
+  pub moved : allPeriods (λ b. b .out) (answersOf a cs) ≡ allPeriods (λ b. b .into) (answersOf a cs)
   -- "granted = used + refunded + standing"
   pub money :
-      totalBy (λ x. x .bill .charges .granted) (answersOf freshAccount cs)
-      ≡ totalBy (λ x. x .bill .charges .used) (answersOf freshAccount cs)
-      + totalBy (λ x. x .amounts .refunded) (answersOf freshAccount cs) + lastOf freshAccount cs .standing
+      totalBy (λ x. x .bill .charges .granted) (answersOf a cs)
+      ≡ totalBy (λ x. x .bill .charges .used) (answersOf a cs)
+      + totalBy (λ x. x .amounts .refunded) (answersOf a cs) + lastOf a cs .standing
   -- "every bill that charges a watt-hour .."
-  pub charged : Each ChargedLast (answersOf freshAccount cs)
+  pub charged : Each ChargedLast (answersOf a cs)

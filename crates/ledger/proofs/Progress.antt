@@ -19,7 +19,7 @@ use Rattle.balances.specs.Calls.{Call, answerOf, accountAfter, answersOf, lastO
 use Rattle.ledger.specs.Encoding.{callOf, rowsOf, decode, callsIn, recordOf, deliveredOf, receivedOf, joined, AllFit}
 use Rattle.ledger.specs.Running.{stepOf}
 use Rattle.ledger.specs.DemandThree.{Holds, DemandThree}
-use Rattle.balances.proofs.Balances.{balanced}
+use Rattle.balances.proofs.Balances.{balanced, starts-fresh}
 use Rattle.ledger.proofs.Decoding.{decode-none, decode-stop, decode-next, record-length}
 use Rattle.balances.proofs.Reachable.{reachable}
 use Rattle.ledger.proofs.Roundtrip.{read-back}
@@ -51,7 +51,12 @@ module _ (all : List Call) (before : List ℕ) where
   pub finish : (a : Account) (row : ℕ) (buffer : List ℕ) → Progress all before [] a row buffer → Holds all before buffer a
   unfolding lastOf answersOf rowsOf
   finish a row buffer p =
-      record { account = p .last; answers = p .answers; balances = balanced all; arises = rw (p .last) (reachable all) }
+      record {
+        account = p .last;
+        answers = p .answers;
+        balances = balanced freshAccount starts-fresh all;
+        arises = rw (p .last) (reachable freshAccount starts-fresh (omega arith) all);
+      }
 
 -- The loop's state: where the next record, readings and row start, and what is left.
 pub record Running (calls delivered received before answers : List ℕ) (a : Account) (left call taken given row : ℕ) : Type 0 where

@@ -17,7 +17,7 @@ use Rattle.balances.specs.Balances.{Balanced}
 pub record Holds (cs : List Call) (before after : List ℕ) (last : Account) : Type 0 where
   pub account : last ≡ lastOf freshAccount cs
   pub answers : after ≡ sets before 0 (rowsOf (answersOf freshAccount cs))
-  pub balances : Balanced cs
+  pub balances : Balanced freshAccount cs
   pub arises : cantArise last ≡ false
 
 -- For what is lent, whatever it is: the calls are those that it reads back as.
