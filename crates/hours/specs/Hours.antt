@@ -62,7 +62,7 @@ unfoldable pub periodOnDay : Bool → ℕ → ℕ
 periodOnDay isCriticalDay p = cond (isCriticalDay && eqb p onPeak) critical p
 
 -- The period of reading j of day d of month m by a schedule, where x names the critical days. A schedule has 384 entries; a missing one is read
--- as 0.
+-- as 0. `hours-are-the-windows` of the laws says it of the fixed schedule without its rows.
 unfoldable pub periodOf : List ℕ → ℕ → ℕ → ℕ → ℕ → ℕ
 periodOf schedule m x d j = periodOnDay (isCritical x d) (getD schedule (rowStart (seasonOf m) (dayKindOf m d) + quarterOf m d j) 0)
 

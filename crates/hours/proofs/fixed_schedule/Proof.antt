@@ -1,5 +1,5 @@
--- `hours::fixed_schedule`: the table's window rule, proved over the whole table at once, since antt computes the 384 entries from the
--- windows and compares them with the table.
+-- `hours::fixed_schedule`: the table's window rule by one computed test, since antt computes the 384 entries from the windows and compares
+-- them with the table.
 use mathlib.Core.Path.{refl}
 use mathlib.Core.List.{_++_}
 use Rattle.hours.specs.Hours.{fixedSchedule, windows, windowPeriod, isOnPeak}
