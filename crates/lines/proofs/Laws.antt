@@ -13,7 +13,8 @@ use Rattle.grammar.specs.Grammar.{openingLine, billLine, criticalLine, runLine}
 use Rattle.numerals.specs.Reading.{numbersAs}
 use Rattle.printing.specs.Printing.{billText, lineText}
 use Rattle.lines.specs.Statement.{State, state, outcome, nextNumber, fault, opened, openingRead, begun, billRead, withCritical, criticalRead}
-use Rattle.lines.specs.Statement.{placeOfLine, withRun, runRead, monthReply, monthEnd, runOrBillRead, expectedRead, atEnd}
+use Rattle.lines.specs.Opening.{placeOfLine}
+use Rattle.lines.specs.Statement.{withRun, runRead, monthReply, monthEnd, runOrBillRead, expectedRead, atEnd}
 use Rattle.lines.specs.Statement.{hasStopped}
 
 -- A line gives no numbers just where none were read.

@@ -1,2 +1,3 @@
 pub mod Feeding
+pub mod Opening
 pub mod Statement

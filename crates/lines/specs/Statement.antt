@@ -3,16 +3,16 @@
 use mathlib.Core.Bool.{Bool, cond, not, _||_}
 use mathlib.Core.List.{List, [], _∷_, _++_}
 use Prim.Native.Nat.{ℕ, _+_, _-_, _^_}
-use lib.Dec.{eqb, leb, ltb}
+use lib.Dec.{eqb, ltb}
 use lib.ListN.{length, getD, replicate}
 use lib.Seq.{sets}
 use Rattle.account.specs.declared.Account.{Account}
 use Rattle.account.specs.declared.Reply.{Reply}
 use Rattle.account.specs.declared.BillingReply.{BillingReply}
 use Rattle.account.specs.Account.{freshAccount, openingReply, billingReply}
-use Rattle.records.specs.Records.{termsAt, pricesAt}
 use Rattle.grammar.specs.Grammar.{openingLine, billLine, criticalLine, runLine}
 use Rattle.printing.specs.Printing.{billText, openText, lineText}
+use Rattle.lines.specs.Opening.{placeOfLine, openingNumbers, openingMonth, openingTerms, openingPrices}
 
 -- Of a month that is being read: its number, its critical days and its readings so far.
 pub record Month : Type 0 where
@@ -24,8 +24,7 @@ pub record Month : Type 0 where
 abbrev pub monthOf : ℕ → ℕ → List ℕ → List ℕ → Month
 monthOf m x d e = record { month = m; critical = x; delivered = d; received = e }
 
--- What has been read: how many lines, which line is expected next, the opening's seventeen numbers in the order of its lines (those not read
--- yet are 0), the account, and the month that is being read.
+-- What has been read: how many lines, which line is expected next, the opening's numbers (those not read yet are 0), the account, and the month that is being read.
 pub record State : Type 0 where
   pub lines : ℕ
   pub expected : ℕ
@@ -57,7 +56,7 @@ hasStopped s = ltb runExpected (s .expected)
 
 -- The state before the first line.
 abbrev pub start : State
-start = state 0 0 (replicate 17 0) freshAccount (monthOf 0 0 [] [])
+start = state 0 0 (replicate openingNumbers 0) freshAccount (monthOf 0 0 [] [])
 
 -- The state after a line, and what it prints.
 pub record Outcome : Type 0 where
@@ -85,15 +84,10 @@ counted s = state (nextNumber (s .lines)) (s .expected) (s .values) (s .account)
 unfoldable pub fault : State → Outcome
 fault s = outcome (lineText (s .lines)) (state (s .lines) stopped (s .values) (s .account) (s .entered))
 
--- The numbers of line k + 1 stand at place k, but for the four prices of line 7, which move the later ones by three.
-abbrev pub placeOfLine : ℕ → ℕ
-placeOfLine k = cond (leb k 6) k (k + 3)
-
--- "It prints the opening's number once line 14 is read"; xs are the opening's numbers. They stand where the record of an opening has its terms
--- and prices (`termsAt`, `pricesAt`), with the first month at place 0.
+-- "It prints the opening's number once line 14 is read"; xs are the opening's numbers.
 unfoldable pub opened : List ℕ → State → Outcome
 opened xs s =
-    let r : Reply = openingReply (s .account) (termsAt xs) (pricesAt xs) (getD xs 0 0) in
+    let r : Reply = openingReply (s .account) (openingTerms xs) (openingPrices xs) (openingMonth xs) in
     outcome (openText (r .number)) (state (s .lines) billExpected xs (r .account) (s .entered))
 
 -- A line of the opening.

@@ -5,8 +5,7 @@ use Prim.Native.Nat.{ℕ, zero, suc, _+_, _-_, _≤_, _<_}
 use native.Mathlib.Nat.{not-suc-le-zero, le-of-suc-le-suc}
 use native.Mathlib.Numerals.{add-one}
 use native.Mathlib.Omega.{arith}
-use lib.ListN.{length, getD, set, take, replicate, replicate-append-replicate}
-use lib.Seq.{take-suc}
+use lib.ListN.{length, set, take, replicate, replicate-append-replicate}
 
 -- A store at the end of a front makes it longer by one.
 set-next : (l : List ℕ) (i a : ℕ) → i < length l → take (suc i) (set l i a) ≡ take i l ++ a ∷ []
@@ -29,9 +28,3 @@ filled-more l front from i v h k e =
     let more : i - from + 1 ≡ i + 1 - from = omega arith in
     stored l i v k ∙ ap (λ (r : List ℕ). r ++ v ∷ []) e ∙ append-assoc front (replicate (i - from) v) (v ∷ [])
     ∙ ap (λ (r : List ℕ). front ++ r) (replicate-append-replicate (i - from) 1 v ∙ ap (λ (n : ℕ). replicate n v) more)
-
--- One number more copied.
-pub copied : (l s : List ℕ) (i : ℕ) → i < length l → i < length s → take i l ≡ take i s → take (i + 1) (set l i (getD s i 0)) ≡ take (i + 1) s
-copied l s i h k e =
-    stored l i (getD s i 0) h ∙ ap (λ (r : List ℕ). r ++ getD s i 0 ∷ []) e
-    ∙ sym (ap (λ (n : ℕ). take n s) (add-one i) ∙ take-suc s i 0 k)

@@ -3,7 +3,6 @@ use mathlib.Core.Path.{_≡_}
 use mathlib.Core.Bool.{cond}
 use mathlib.Core.List.{List, [], _∷_}
 use Prim.Native.Nat.{ℕ, _+_}
-use lib.Dec.{eqb}
 use lib.ListN.{getD, take}
 use lib.Seq.{sets}
 use Rattle.text.specs.Text.{placeOf}
@@ -12,7 +11,8 @@ use Rattle.grammar.specs.Grammar.{runLine}
 use Rattle.printing.specs.Writing.{Wrote}
 use Rattle.progress.specs.declared.Progress.{Progress}
 use Rattle.progress.specs.declared.Run.{Run}
-use Rattle.lines.specs.Statement.{State, state, monthOf, Outcome, placeOfLine}
+use Rattle.lines.specs.Opening.{placeOfLine, widthOfLine}
+use Rattle.lines.specs.Statement.{State, state, monthOf, Outcome}
 use Rattle.progress.specs.Progressing.{stateOf, lineAt, isRun}
 
 -- The same as `Reads` where a text fits.
@@ -30,7 +30,7 @@ EndsAs f out i before later outLater j = (d e : List ℕ) → Ends out i (f (sta
 -- The opening's numbers with those of the line that is expected.
 unfoldable pub valuesWith : List ℕ → ℕ → Numbers → List ℕ
 valuesWith xs expected v =
-    cond (eqb expected 6) (sets xs 6 (v .first ∷ v .second ∷ v .third ∷ v .fourth ∷ [])) (sets xs (placeOfLine expected) (v .first ∷ []))
+    sets xs (placeOfLine expected) (take (widthOfLine expected) (v .first ∷ v .second ∷ v .third ∷ v .fourth ∷ []))
 
 -- The run line at the front of an input, where it fits after so many readings.
 unfoldable pub runAt : List ℕ → ℕ → Run

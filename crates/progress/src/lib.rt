@@ -8,11 +8,17 @@ ghost use Rattle.grammar.specs.Grammar.{openingLine, billLine, criticalLine, ru
 ghost use Rattle.numerals.specs.Reading.{numbersAs};
 ghost use Rattle.printing.specs.Writing.{hasRoom, Put};
 ghost use Rattle.lines.specs.Statement.{start, nextNumber, counted, begun, fault, monthReply, opened, openingRead, billRead, criticalRead, runRead, monthEnd, runOrBillRead, expectedRead, lineRead, atEnd};
+ghost use Rattle.lines.specs.Opening.{riderOf, classOf, openingTerms, openingPrices};
 ghost use Rattle.progress.specs.Progressing.{stateOf, StandsFor, SaysStopped, Reads, RunsRead};
 ghost use Rattle.progress.specs.Ending.{valuesWith, StandsAs, Ends, EndsAs, runAt, StandsAfter};
 use account::Account;
 use account::BillingReply;
+use hours::ByPeriod;
 use numerals::Numbers;
+use tariff::Class;
+use tariff::PriceList;
+use tariff::Rider;
+use tariff::Terms;
 
 // What is expected after the opening's lines.
 const BILL_EXPECTED: u32 = 14;
@@ -22,6 +28,62 @@ const CRITICAL_EXPECTED: u32 = 15;
 const RUN_EXPECTED: u32 = 16;
 
 const STOPPED: u32 = 17;
+
+// The places of the opening's numbers, in the order of its lines.
+const OPENS: usize = 0;
+
+const RIDER: usize = OPENS + 1;
+
+const CLASS: usize = RIDER + 1;
+
+const NAMEPLATE: usize = CLASS + 1;
+
+const LIMIT: usize = NAMEPLATE + 1;
+
+const ASSISTED: usize = LIMIT + 1;
+
+const CRITICAL_PRICE: usize = ASSISTED + 1;
+
+const ON_PEAK_PRICE: usize = CRITICAL_PRICE + 1;
+
+const OFF_PEAK_PRICE: usize = ON_PEAK_PRICE + 1;
+
+const DISCOUNT_PRICE: usize = OFF_PEAK_PRICE + 1;
+
+const DEMAND: usize = DISCOUNT_PRICE + 1;
+
+const STANDBY: usize = DEMAND + 1;
+
+const BYPASS: usize = STANDBY + 1;
+
+const CREDIT: usize = BYPASS + 1;
+
+const DISTRIBUTION: usize = CREDIT + 1;
+
+const BASIC: usize = DISTRIBUTION + 1;
+
+const MINIMUM: usize = BASIC + 1;
+
+// Where the numbers of each line begin.
+const PLACES: [usize; 14] = [
+    OPENS,
+    RIDER,
+    CLASS,
+    NAMEPLATE,
+    LIMIT,
+    ASSISTED,
+    CRITICAL_PRICE,
+    DEMAND,
+    STANDBY,
+    BYPASS,
+    CREDIT,
+    DISTRIBUTION,
+    BASIC,
+    MINIMUM,
+];
+
+// What is expected where the prices are.
+const PRICES_EXPECTED: u32 = 6;
 
 const NEWLINE: u8 = 10;
 
@@ -97,32 +159,75 @@ fn with_values(values: [u32; 17], expected: u32, numbers: Numbers) -> [u32; 17]
     ensures { λ r. ⌜ r ≡ valuesWith values expected numbers ⌝ }
 {
     let mut next = values;
-    if expected == 6 {
-        next[6] = numbers.first;
-        next[7] = numbers.second;
-        next[8] = numbers.third;
-        next[9] = numbers.fourth;
+    if expected == PRICES_EXPECTED {
+        next[CRITICAL_PRICE] = numbers.first;
+        next[ON_PEAK_PRICE] = numbers.second;
+        next[OFF_PEAK_PRICE] = numbers.third;
+        next[DISCOUNT_PRICE] = numbers.fourth;
         return next;
     }
-    if expected < 6 {
-        next[expected as usize] = numbers.first;
-        return next;
-    }
-    next[expected as usize + 3] = numbers.first;
+    let place = PLACES[expected as usize];
+    next[place] = numbers.first;
     next
 }
 
-// The opening's numbers as wider ones.
-fn widened(values: [u32; 17]) -> [u64; 17]
-    ensures { λ r. ⌜ r ≡ values ⌝ }
+// The rider that a word names.
+fn rider_of(word: u32) -> Rider
+    ensures { λ r. ⌜ r ≡ riderOf word ⌝ }
 {
-    let mut wide = [0u64; 17];
-    let mut place = 0;
-    while place < 17 {
-        wide[place] = values[place] as u64;
-        place += 1;
+    if word == 0 {
+        Rider::Banked
+    } else {
+        Rider::Bridge
     }
-    wide
+}
+
+// The class that a word names.
+fn class_of(word: u32) -> Class
+    ensures { λ r. ⌜ r ≡ classOf word ⌝ }
+{
+    if word == 0 {
+        Class::Home
+    } else {
+        Class::Business
+    }
+}
+
+// The terms of an opening.
+fn terms_of(values: [u32; 17]) -> Terms
+    ensures { λ r. ⌜ r ≡ openingTerms values ⌝ }
+{
+    let rider = rider_of(values[RIDER]);
+    let class = class_of(values[CLASS]);
+    Terms {
+        rider,
+        class,
+        nameplate: values[NAMEPLATE] as u64,
+        limit: values[LIMIT] as u64,
+        assisted: values[ASSISTED] == 1,
+    }
+}
+
+// The price list of an opening.
+fn prices_of(values: [u32; 17]) -> PriceList
+    ensures { λ r. ⌜ r ≡ openingPrices values ⌝ }
+{
+    let energy = ByPeriod {
+        critical: values[CRITICAL_PRICE] as u64,
+        onpeak: values[ON_PEAK_PRICE] as u64,
+        offpeak: values[OFF_PEAK_PRICE] as u64,
+        discount: values[DISCOUNT_PRICE] as u64,
+    };
+    PriceList {
+        energy,
+        demand: values[DEMAND] as u64,
+        standby: values[STANDBY] as u64,
+        bypass: values[BYPASS] as u64,
+        credit: values[CREDIT] as u64,
+        distribution: values[DISTRIBUTION] as u64,
+        basic: values[BASIC] as u64,
+        minimum: values[MINIMUM] as u64,
+    }
 }
 
 // The account is opened.
@@ -131,10 +236,9 @@ fn open(progress: Progress, values: [u32; 17], out: &mut [u8], at: usize) -> End
     ensures { λ r. ⌜ EndsAs (opened values) (now (out .entry)) at progress (r .progress) (now (out .exit)) (r .at) ⌝ }
 {
     let account = progress.account;
-    let wide = widened(values);
-    let terms = records::terms_at(&wide);
-    let prices = records::prices_at(&wide);
-    let reply = account.opening(terms, prices, values[0]);
+    let terms = terms_of(values);
+    let prices = prices_of(values);
+    let reply = account.opening(terms, prices, values[OPENS]);
     let after = reply.account;
     let mut next = progress;
     next.expected = BILL_EXPECTED;

@@ -52,7 +52,7 @@ returns-2 c = λ d e.
     let l = st .args .line .now in
     let read = c .before .before .before .before .before .opening-line .ensures in
     let some = c .before .before .before .if1 .left in
-    let values = c .before .with-values .ensures ∙ values-are (s .values) (s .expected) l _ read some in
+    let values = c .before .with-values .ensures ∙ values-are (s .values) (s .expected) l _ (st .pre .0) read some in
     quiet (st .args .out .now) (st .args .at) _ _
     (opening-more (openingLine (s .expected) l) _ read s some (c .if2 .taken)
     ∙ ap (λ (xs : List ℕ). outcome [] (state (s .lines) (s .expected + 1) xs (s .account) (s .entered))) (sym values))
@@ -73,7 +73,7 @@ returns-3 c = λ d e.
     let l = st .args .line .now in
     let read = c .before .before .before .before .before .before .before .before .before .opening-line .ensures in
     let some = c .before .before .before .before .before .before .before .if1 .left in
-    let values = c .before .before .before .before .before .with-values .ensures ∙ values-are (s .values) (s .expected) l _ read some in
+    let values = c .before .before .before .before .before .with-values .ensures ∙ values-are (s .values) (s .expected) l _ (st .pre .0) read some in
     ends-by _ _ _ _ _ _ _
     (opening-last (openingLine (s .expected) l) _ read s some (c .before .before .before .before .if2 .left) ∙ ap (λ (xs : List ℕ). opened xs s) (sym values))
     (c .before .before .«open» .ensures d e)

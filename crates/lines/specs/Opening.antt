@@ -1,0 +1,76 @@
+-- Document 01, "Day view and statement": "the first fourteen open the account". What the numbers of these lines stand for.
+use mathlib.Core.Bool.{cond}
+use mathlib.Core.List.{List, [], _∷_}
+use Prim.Native.Nat.{ℕ, _+_, _-_}
+use lib.Dec.{eqb}
+use lib.ListN.{getD, take}
+use Rattle.tariff.specs.declared.Rider.{Rider}
+use Rattle.tariff.specs.declared.Rider.the-variants.{Banked, Bridge}
+use Rattle.tariff.specs.declared.Class.{Class}
+use Rattle.tariff.specs.declared.Class.the-variants.{Home, Business}
+use Rattle.tariff.specs.declared.Terms.{Terms}
+use Rattle.tariff.specs.declared.PriceList.{PriceList}
+
+-- How many numbers each line gives: line 7 four prices, every other line one.
+abbrev pub lineWidths : List ℕ
+lineWidths = 1 ∷ 1 ∷ 1 ∷ 1 ∷ 1 ∷ 1 ∷ 4 ∷ 1 ∷ 1 ∷ 1 ∷ 1 ∷ 1 ∷ 1 ∷ 1 ∷ []
+
+-- How many line k + 1 gives.
+abbrev pub widthOfLine : ℕ → ℕ
+widthOfLine k = getD lineWidths k 0
+
+-- The opening's numbers are kept in one list, in the order of the lines: those of line k + 1 stand behind those of the k lines before it.
+abbrev pub total : List ℕ → ℕ
+total [] = 0
+total (w ∷ ws) = w + total ws
+
+abbrev pub placeOfLine : ℕ → ℕ
+placeOfLine k = total (take k lineWidths)
+
+abbrev pub openingNumbers : ℕ
+openingNumbers = total lineWidths
+
+-- Of such a list xs, number i of line n, both counted from 1; and the first number of line n.
+abbrev pub numberAt : List ℕ → ℕ → ℕ → ℕ
+numberAt xs n i = getD xs (placeOfLine (n - 1) + (i - 1)) 0
+
+abbrev pub numberOfLine : List ℕ → ℕ → ℕ
+numberOfLine xs n = numberAt xs n 1
+
+-- `opens`
+abbrev pub openingMonth : List ℕ → ℕ
+openingMonth xs = numberOfLine xs 1
+
+-- "Class is `home` or `business`, rider `banked` or `bridge`, assisted `yes` or `no`": of two words `Grammar` gives 0 for the first, 1 for the
+-- second.
+abbrev pub riderOf : ℕ → Rider
+riderOf word = cond (eqb word 0) Banked Bridge
+
+abbrev pub classOf : ℕ → Class
+classOf word = cond (eqb word 0) Home Business
+
+-- `rider`, `class`, `nameplate`, `limit`, `assisted`
+abbrev pub openingTerms : List ℕ → Terms
+openingTerms xs =
+    record {
+      rider = riderOf (numberOfLine xs 2);
+      class = classOf (numberOfLine xs 3);
+      nameplate = numberOfLine xs 4;
+      limit = numberOfLine xs 5;
+      assisted = eqb (numberOfLine xs 6) 1;
+    }
+
+-- `prices`, `demand`, `standby`, `bypass`, `credit`, `distribution`, `basic`, `minimum`
+abbrev pub openingPrices : List ℕ → PriceList
+openingPrices xs =
+    record {
+      energy =
+          record { critical = numberAt xs 7 1; onpeak = numberAt xs 7 2; offpeak = numberAt xs 7 3; discount = numberAt xs 7 4 };
+      demand = numberOfLine xs 8;
+      standby = numberOfLine xs 9;
+      bypass = numberOfLine xs 10;
+      credit = numberOfLine xs 11;
+      distribution = numberOfLine xs 12;
+      basic = numberOfLine xs 13;
+      minimum = numberOfLine xs 14;
+    }
