@@ -5,6 +5,7 @@ use mathlib.Core.List.{List, [], _∷_, _++_}
 use Prim.Native.Nat.{ℕ, zero, suc, _+_, _-_}
 use lib.Dec.{eqb, leb}
 use lib.ListN.{length, take}
+use lib.Seq.{sets}
 use Rattle.printing.specs.Writing.{textRoom}
 use Rattle.lines.specs.Statement.{State, hasStopped, start, lineRead, atEnd, statementOf}
 
@@ -37,11 +38,31 @@ unfoldable pub printed : SoFar → List ℕ → List ℕ
 printed x [] = []
 printed x (b ∷ bs) = byteText x b ++ printed (afterByte x b) bs
 
+-- Two registers that a caller lends: the month's readings are stored at their fronts, and what lies past them is unaltered.
+pub record Registers : Type 0 where
+  pub delivered : List ℕ
+  pub received : List ℕ
+
+abbrev pub registersOf : List ℕ → List ℕ → Registers
+registersOf d e = record { delivered = d; received = e }
+
+unfoldable pub withReadings : State → Registers → Registers
+withReadings s r = registersOf (sets (r .delivered) 0 (s .entered .delivered)) (sets (r .received) 0 (s .entered .received))
+
+-- The registers after bytes: past the readings of a new month those of an old one stay.
+unfoldable pub registersAfter : SoFar → List ℕ → Registers → Registers
+registersAfter x [] r = r
+registersAfter x (b ∷ bs) r = registersAfter (afterByte x b) bs (withReadings (afterByte x b .state) r)
+
 -- What the end of the input prints.
 unfoldable pub ending : SoFar → List ℕ
 ending x =
     cond (eqb (length (x .line)) 0) (atEnd (x .state))
     (lineRead (x .line) (x .state) .text ++ atEnd (lineRead (x .line) (x .state) .state))
+
+-- The state at the end of the input: a last line that lacks its newline is read.
+unfoldable pub stateAtEnd : SoFar → State
+stateAtEnd x = cond (eqb (length (x .line)) 0) (x .state) (lineRead (x .line) (x .state) .state)
 
 -- How many bytes are taken where a buffer for the texts has so much room: each as long as any one text still fits.
 unfoldable pub takenOf : ℕ → SoFar → List ℕ → ℕ

@@ -1,4 +1,4 @@
+mod Filling
 mod Lines
 mod Runs
 pub mod RunLines
-pub mod Stores

@@ -23,8 +23,9 @@ use Rattle.printing.specs.Writing.{hasRoom, Wrote, Put}
 use Rattle.lines.specs.Opening.{placeOfLine, widthOfLine, openingMonth, openingTerms, openingPrices}
 use Rattle.lines.specs.Statement.{State, state, Outcome, outcome, opened, begun}
 use Rattle.lines.specs.Statement.{monthReply, monthEnd, runOrBillRead, counted, expectedRead, lineRead}
+use Rattle.lines.specs.Feeding.{Registers, withReadings}
 use Rattle.progress.specs.Progressing.{Reads}
-use Rattle.progress.specs.Ending.{Ends, valuesWith}
+use Rattle.progress.specs.Ending.{Ends, EndsWith, valuesWith}
 use Rattle.lines.proofs.Opening.{width-within, one-number, line-gives}
 
 -- As many readings as there are.
@@ -135,13 +136,19 @@ values-are xs k l x h e some =
     rw (e, ← wide, front-is (openingLine k l) (omega (arith, wide, width-within k h)))
 
 -- Where a text fits, a line is read.
-pub reads-some : (o : List ℕ) (i : ℕ) (s : State) (step : Outcome) (t : State) (p : List ℕ) (j : ℕ) → hasRoom o i ≡ true
-    → Ends o i step t p j → Reads o i s step t p j
-reads-some o i s step t p j h w =
-    record { state = w .state ∙ sym (rw h); bytes = w .text .bytes ∙ sym (rw h); end = w .text .end ∙ sym (rw h) }
+pub reads-some : (o : List ℕ) (i : ℕ) (r : Registers) (s : State) (step : Outcome) (t : State) (q : Registers) (p : List ℕ) (j : ℕ) → hasRoom o i ≡ true
+    → EndsWith o i r step t q p j → Reads o i r s step t q p j
+reads-some o i r s step t q p j h w =
+    record {
+      state = w .ends .state ∙ sym (rw h);
+      registers = w .registers;
+      bytes = w .ends .text .bytes ∙ sym (rw h);
+      end = w .ends .text .end ∙ sym (rw h);
+    }
 
-pub reads-none : (o : List ℕ) (i : ℕ) (s : State) (step : Outcome) → hasRoom o i ≡ false → Reads o i s step s o i
-reads-none o i s step h = record { state = sym (rw h); bytes = sym (rw h); end = sym (rw h) }
+pub reads-none : (o : List ℕ) (i : ℕ) (r : Registers) (s : State) (step : Outcome) → hasRoom o i ≡ false → r ≡ withReadings s r
+    → Reads o i r s step s r o i
+reads-none o i r s step h e = record { state = sym (rw h); registers = e; bytes = sym (rw h); end = sym (rw h) }
 
 -- The next month begins after the one before is printed.
 pub month-begins : (o : List ℕ) (i : ℕ) (p : List ℕ) (j : ℕ) (l : List ℕ) (s t u : State) (m : ℕ)
@@ -151,7 +158,7 @@ month-begins o i p j l s t u m e w b =
     subst (λ (x : Outcome). Ends o i x u p j) (sym e) (record { state = b ∙ ap (begun m) (w .state); text = w .text })
 
 -- A line is counted before it is read.
-pub read-by : (o : List ℕ) (i : ℕ) (p : List ℕ) (j : ℕ) (l : List ℕ) (s t u : State) → u ≡ counted s → Ends o i (expectedRead l u) t p j
-    → Ends o i (lineRead l s) t p j
+pub read-by : (o : List ℕ) (i : ℕ) (r : Registers) (q : Registers) (p : List ℕ) (j : ℕ) (l : List ℕ) (s t u : State) → u ≡ counted s
+    → EndsWith o i r (expectedRead l u) t q p j → EndsWith o i r (lineRead l s) t q p j
 unfolding lineRead
-read-by o i p j l s t u e w = subst (λ (x : State). Ends o i (expectedRead l x) t p j) e w
+read-by o i r q p j l s t u e w = subst (λ (x : State). EndsWith o i r (expectedRead l x) t q p j) e w

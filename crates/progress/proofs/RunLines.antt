@@ -1,22 +1,24 @@
 -- Run lines at the front of an input, over plain values. l is the input, n how many readings there are.
 use mathlib.Core.Path.{_≡_, refl, sym, _∙_, ap, subst}
 use mathlib.Core.Bool.{Bool, true, false, cond, _&&_}
-use mathlib.Core.List.{List, [], _∷_, _++_}
+use mathlib.Core.List.{List, [], _∷_}
 use Prim.Native.Nat.{ℕ, zero, suc, _+_, _-_, _≤_, _<_, min}
 use native.Mathlib.Omega.{arith}
 use borrow.Author.Tests.{leb-true, le-leb, lt-leb, eqb-true, eqb-false, eq-eqb, ne-eqb}
 use lib.Dec.{eqb, leb}
 use lib.ListN.{length, getD, take, drop, replicate, length-take, length-drop}
-use lib.Seq.{take-all, drop-drop}
+use lib.Seq.{sets, take-all, drop-drop}
 use Rattle.text.specs.Text.{placeOf}
 use Rattle.numerals.specs.declared.Numbers.{Numbers}
 use Rattle.grammar.specs.Grammar.{runLine}
 use Rattle.numerals.specs.Reading.{numbersAs}
 use Rattle.progress.specs.declared.Run.{Run}
 use Rattle.progress.specs.declared.Progress.{Progress}
-use Rattle.lines.specs.Statement.{State, state, Month, monthOf, Outcome, outcome, nextNumber, counted, withRun, lineRead}
+use Rattle.lines.specs.Statement.{State, state, Outcome, outcome, nextNumber, counted, withRun, lineRead}
+use Rattle.lines.specs.Feeding.{Registers, registersOf, withReadings}
 use Rattle.progress.specs.Progressing.{stateOf, lineAt, isRun, isRunExpected, runsBytes, runsState, RunsRead}
 use Rattle.progress.specs.Ending.{runAt, ranTo}
+use Rattle.progress.proofs.Filling.{filled-front, filled-both}
 use Rattle.progress.proofs.Lines.{least-taken}
 use Rattle.lines.proofs.Laws.{later-run, run-yes, expected-later}
 
@@ -185,47 +187,50 @@ same-runs (suc n) (suc m) l s h k =
           state = state-more n l s e ∙ w .state ∙ sym (state-more m l s e);
         }
 
--- So many bytes have been taken, and s is the state then.
-pub record Running (before : State) (input : List ℕ) (taken : ℕ) (s : State) : Type 0 where
+-- So many bytes have been taken, s is the state then, and q the registers.
+pub record Running (before : State) (r : Registers) (input : List ℕ) (taken : ℕ) (s : State) (q : Registers) : Type 0 where
   pub within : taken ≤ length input
   pub bytes : runsBytes (length input) input before ≡ taken + runsBytes (length input - taken) (drop taken input) s
   pub state : runsState (length input) input before ≡ runsState (length input - taken) (drop taken input) s
+  pub registers : q ≡ withReadings s r
 
-pub running-start : (before s : State) (input : List ℕ) → s ≡ before → Running before input 0 s
-running-start before s input e =
+pub running-start : (before s : State) (r : Registers) (input : List ℕ) → s ≡ before → r ≡ withReadings s r → Running before r input 0 s r
+running-start before s r input e k =
     let all : length input - 0 ≡ length input = omega arith in
     record {
       within = omega arith;
       bytes = rw (all, e) (omega arith);
       state = rw (all, e);
+      registers = k;
     }
 
 -- The code lends what is left of the input.
-module _ (before s : State) (input : List ℕ) (taken : ℕ) (w : Running before input taken s) where
+module _ (before s : State) (r q : Registers) (input : List ℕ) (taken : ℕ) (w : Running before r input taken s q) where
   rest-is : take (length input - taken) (drop taken input) ≡ drop taken input
   rest-is = take-all (length input - taken) (drop taken input) (omega (arith, length-drop taken input))
 
-  pub running-none : isRunExpected (take (length input - taken) (drop taken input)) s ≡ false → RunsRead before input taken s
+  pub running-none : isRunExpected (take (length input - taken) (drop taken input)) s ≡ false → RunsRead before r input taken s q
   running-none h =
       let e : isRunExpected (drop taken input) s ≡ false = rw rest-is at h in
       record {
         takes = sym (w .bytes ∙ rw (bytes-none (length input - taken) (drop taken input) s e) (omega arith));
         state = sym (w .state ∙ state-none (length input - taken) (drop taken input) s e);
+        registers = w .registers;
       }
 
-  pub running-all : length input ≤ taken → RunsRead before input taken s
+  pub running-all : length input ≤ taken → RunsRead before r input taken s q
   running-all h =
       running-none (none-left (take (length input - taken) (drop taken input)) s
       (omega (arith, length-take (length input - taken) (drop taken input), length-drop taken input)))
 
-  pub running-more : (t : State) (more : ℕ) → isRunExpected (take (length input - taken) (drop taken input)) s ≡ true
+  pub running-more : (t : State) (p : Registers) (more : ℕ) → isRunExpected (take (length input - taken) (drop taken input)) s ≡ true
       → more ≡ placeOf 10 (take (length input - taken) (drop taken input)) + 1
-      → t ≡ lineRead (lineAt (take (length input - taken) (drop taken input))) s .state → Running before input (taken + more) t
-  running-more t more h p q =
+      → t ≡ lineRead (lineAt (take (length input - taken) (drop taken input))) s .state → p ≡ withReadings t r → Running before r input (taken + more) t p
+  running-more t p more h k f v =
       let rest = drop taken input in
       let expected : isRunExpected rest s ≡ true = rw rest-is at h in
-      let bytes : more ≡ placeOf 10 rest + 1 = rw rest-is at p in
-      let then : t ≡ lineRead (lineAt rest) s .state = rw rest-is at q in
+      let bytes : more ≡ placeOf 10 rest + 1 = rw rest-is at k in
+      let then : t ≡ lineRead (lineAt rest) s .state = rw rest-is at f in
       let newline = expected-newline rest s expected in
       let long = length-drop taken input in
       let less : length input - taken ≡ suc (length input - taken - 1) = omega (arith, newline, long) in
@@ -240,6 +245,7 @@ module _ (before s : State) (input : List ℕ) (taken : ℕ) (w : Running before
         within = omega (arith, newline, long, bytes);
         bytes = omega (arith, w .bytes, some);
         state = w .state ∙ rw (less, state-more (length input - taken - 1) rest s expected, later, ← then) (same .state);
+        registers = v;
       }
 
 -- What a turn of the loop changes, where a run line stands there.
@@ -272,7 +278,7 @@ module _ (n : ℕ) (l : List ℕ) (run : Run) (q : run ≡ runAt l n) (some : ru
   turn-fits = omega (arith, ap (λ (y : Run). y .count) run-is, run-fits l n there .fits)
 
 -- x is the progress before the loop; n readings stand at the front of both registers.
-module _ (x : Progress) (number n : ℕ) (d e l : List ℕ) (expected : x .expected ≡ 16) (long : length d ≡ 2976) (within : n ≤ 2976) where
+module _ (x : Progress) (number n : ℕ) (d e l : List ℕ) (expected : x .expected ≡ 16) (long : length d ≡ 2976) (wide : length e ≡ 2976) (within : n ≤ 2976) where
   filled : length (take n d) ≡ n
   filled = omega (arith, length-take n d)
 
@@ -289,16 +295,27 @@ module _ (x : Progress) (number n : ℕ) (d e l : List ℕ) (expected : x .expec
       pub turn-expected : isRunExpected l (ranTo x number (take n d) (take n e)) ≡ true
       turn-expected = is-expected l (ranTo x number (take n d) (take n e)) true expected (rw filled (there n l run q some))
 
-      pub turn-state : (f g : List ℕ) (next : ℕ) → next ≡ nextNumber number
-          → take (n + run .count) f ≡ take n d ++ replicate (n + run .count - n) (run .delivered)
-          → take (n + run .count) g ≡ take n e ++ replicate (n + run .count - n) (run .received)
-          → ranTo x next (take (n + run .count) f) (take (n + run .count) g)
-          ≡ lineRead (lineAt l) (ranTo x number (take n d) (take n e)) .state
-      unfolding counted
-      turn-state f g next k wf wg =
-          let more : n + run .count - n ≡ run .count = omega arith in
-          let read = ap (λ (y : Outcome). y .state) (run-read l (ranTo x number (take n d) (take n e)) turn-expected) in
-          rw (wf, wg, more, k, run-is n l run q some) (sym read)
+      module _ (f g : List ℕ) (next : ℕ) (wf : f ≡ sets d n (replicate (n + run .count - n) (run .delivered)))
+          (wg : g ≡ sets e n (replicate (n + run .count - n) (run .received))) where
+        fits : n + run .count ≤ 2976
+        fits = turn-fits n l run q some
+
+        pub turn-state : next ≡ nextNumber number
+            → ranTo x next (take (n + run .count) f) (take (n + run .count) g)
+            ≡ lineRead (lineAt l) (ranTo x number (take n d) (take n e)) .state
+        unfolding counted
+        turn-state k =
+            let front = filled-front d f n (n + run .count) (run .delivered) (omega arith) (omega (arith, long, fits)) wf in
+            let back = filled-front e g n (n + run .count) (run .received) (omega arith) (omega (arith, wide, fits)) wg in
+            let more : n + run .count - n ≡ run .count = omega arith in
+            let read = ap (λ (y : Outcome). y .state) (run-read l (ranTo x number (take n d) (take n e)) turn-expected) in
+            rw (front, back, more, k, run-is n l run q some) (sym read)
+
+        pub turn-registers : (r : Registers) → registersOf d e ≡ withReadings (ranTo x number (take n d) (take n e)) r
+            → registersOf f g ≡ withReadings (ranTo x next (take (n + run .count) f) (take (n + run .count) g)) r
+        turn-registers r w =
+            filled-both x number next n (n + run .count) (run .delivered) (run .received) r d e f g (omega arith)
+            (omega (arith, long, fits)) (omega (arith, wide, fits)) w wf wg
 
 -- Before the first turn: r readings stand in both registers.
 pub loop-start : (x : Progress) (d e : List ℕ) (r n : ℕ) → length d ≡ 2976 → length e ≡ 2976 → r ≡ min (x .filled) (length d)
@@ -309,9 +326,11 @@ loop-start x d e r n p q h k =
     rw (least-taken d (x .filled) n first, least-taken e (x .filled) n second)
 
 -- No run is expected.
-pub none-expected : (s : State) (input : List ℕ) → (s .expected ≡ 16 → ⊥) → RunsRead s input 0 s
-none-expected s input h = running-none s s input 0 (running-start s s input refl) (not-expected (take (length input - 0) (drop 0 input)) s h)
+pub none-expected : (s : State) (r : Registers) (input : List ℕ) → (s .expected ≡ 16 → ⊥) → r ≡ withReadings s r → RunsRead s r input 0 s r
+none-expected s r input h e =
+    running-none s s r r input 0 (running-start s s r input refl e) (not-expected (take (length input - 0) (drop 0 input)) s h)
 
 -- The later progress stands for the state.
-pub ran-to : (before s t : State) (input : List ℕ) (taken : ℕ) → t ≡ s → RunsRead before input taken s → RunsRead before input taken t
-ran-to before s t input taken e w = subst (λ (x : State). RunsRead before input taken x) (sym e) w
+pub ran-to : (before s t : State) (r q : Registers) (input : List ℕ) (taken : ℕ) → t ≡ s → RunsRead before r input taken s q
+    → RunsRead before r input taken t q
+ran-to before s t r q input taken e w = subst (λ (x : State). RunsRead before r input taken x q) (sym e) w

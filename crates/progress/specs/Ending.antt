@@ -13,12 +13,19 @@ use Rattle.progress.specs.declared.Progress.{Progress}
 use Rattle.progress.specs.declared.Run.{Run}
 use Rattle.lines.specs.Opening.{placeOfLine, widthOfLine}
 use Rattle.lines.specs.Statement.{State, state, monthOf, Outcome}
+use Rattle.lines.specs.Feeding.{Registers, withReadings}
 use Rattle.progress.specs.Progressing.{stateOf, lineAt, isRun}
 
 -- The same as `Reads` where a text fits.
 pub record Ends (out : List ℕ) (i : ℕ) (step : Outcome) (later : State) (outLater : List ℕ) (j : ℕ) : Type 0 where
   pub state : later ≡ step .state
   pub text : Wrote out i (step .text) outLater j
+
+-- The same of a line that can alter the registers.
+pub record EndsWith
+    (out : List ℕ) (i : ℕ) (r : Registers) (step : Outcome) (later : State) (rLater : Registers) (outLater : List ℕ) (j : ℕ) : Type 0 where
+  pub ends : Ends out i step later outLater j
+  pub registers : rLater ≡ withReadings later r
 
 -- Whatever the registers hold, the later progress stands for what f makes of the one before.
 abbrev pub StandsAs : (State → State) → Progress → Progress → Type 0

@@ -8,9 +8,10 @@ use lib.ListN.{length, getD, take, drop}
 use lib.Seq.{sets}
 use Rattle.text.specs.Text.{placeOf}
 use Rattle.grammar.specs.Grammar.{runLine}
-use Rattle.printing.specs.Writing.{hasRoom}
+use Rattle.printing.specs.Writing.{hasRoom, Put}
 use Rattle.progress.specs.declared.Progress.{Progress}
-use Rattle.lines.specs.Statement.{State, state, monthOf, Outcome, isUnreadable, mostReadings, runExpected, hasStopped, lineRead}
+use Rattle.lines.specs.Statement.{State, state, monthOf, Outcome, isUnreadable, mostReadings, runExpected, hasStopped, lineRead, atEnd}
+use Rattle.lines.specs.Feeding.{Registers, withReadings}
 
 -- The readings of the month stand at the front of the two registers.
 abbrev pub stateOf : Progress → List ℕ → List ℕ → State
@@ -27,9 +28,11 @@ abbrev pub SaysStopped : Progress → Bool → Type 0
 SaysStopped x answer = (d e : List ℕ) → answer ≡ hasStopped (stateOf x d e)
 
 -- A line was read, where a text fits into the buffer from place i on: what the progress stands for then, and its text. Elsewhere both
--- stay as they were.
-pub record Reads (out : List ℕ) (i : ℕ) (before : State) (step : Outcome) (later : State) (outLater : List ℕ) (j : ℕ) : Type 0 where
+-- stay as they were. Past the month's readings the registers are unaltered.
+pub record Reads
+    (out : List ℕ) (i : ℕ) (r : Registers) (before : State) (step : Outcome) (later : State) (rLater : Registers) (outLater : List ℕ) (j : ℕ) : Type 0 where
   pub state : later ≡ cond (hasRoom out i) (step .state) before
+  pub registers : rLater ≡ withReadings later r
   pub bytes : outLater ≡ cond (hasRoom out i) (sets out i (step .text)) out
   pub end : j ≡ cond (hasRoom out i) (i + length (step .text)) i
 
@@ -57,7 +60,13 @@ unfoldable pub runsState : ℕ → List ℕ → State → State
 runsState zero l s = s
 runsState (suc n) l s = cond (isRunExpected l s) (runsState n (drop (placeOf 10 l + 1) l) (lineRead (lineAt l) s .state)) s
 
--- They were read.
-pub record RunsRead (before : State) (input : List ℕ) (taken : ℕ) (later : State) : Type 0 where
+-- They were read. Past the month's readings the registers are unaltered.
+pub record RunsRead (before : State) (r : Registers) (input : List ℕ) (taken : ℕ) (later : State) (rLater : Registers) : Type 0 where
   pub takes : taken ≡ runsBytes (length input) input before
   pub state : later ≡ runsState (length input) input before
+  pub registers : rLater ≡ withReadings later r
+
+-- The end of the input: its text, where it fits from place i on. The registers are unaltered.
+pub record Finishes (out : List ℕ) (i : ℕ) (r : Registers) (before : State) (rLater : Registers) (outLater : List ℕ) (j : ℕ) : Type 0 where
+  pub text : Put out i (atEnd before) outLater j
+  pub registers : rLater ≡ r

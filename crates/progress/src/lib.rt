@@ -1,16 +1,17 @@
 // A line of `statement` is read: the progress and the registers after it, and its text.
 ghost use mathlib.Core.Path.{_≡_};
 ghost use mathlib.Core.Bool.{true};
-ghost use mathlib.Core.List.{List, _++_};
-ghost use Prim.Native.Nat.{ℕ, _+_, _-_, _≤_, _<_, min};
-ghost use lib.ListN.{length, take, replicate};
+ghost use Prim.Native.Nat.{_-_, _≤_, _<_, min};
+ghost use lib.ListN.{length, replicate};
+ghost use lib.Seq.{sets};
 ghost use Rattle.grammar.specs.Grammar.{openingLine, billLine, criticalLine, runLine};
 ghost use Rattle.numerals.specs.Reading.{numbersAs};
-ghost use Rattle.printing.specs.Writing.{hasRoom, Put};
-ghost use Rattle.lines.specs.Statement.{start, nextNumber, counted, begun, fault, monthReply, opened, openingRead, billRead, criticalRead, runRead, monthEnd, runOrBillRead, expectedRead, lineRead, atEnd};
+ghost use Rattle.printing.specs.Writing.{hasRoom};
 ghost use Rattle.lines.specs.Opening.{riderOf, classOf, openingTerms, openingPrices};
-ghost use Rattle.progress.specs.Progressing.{stateOf, StandsFor, SaysStopped, Reads, RunsRead};
-ghost use Rattle.progress.specs.Ending.{valuesWith, StandsAs, Ends, EndsAs, runAt, StandsAfter};
+ghost use Rattle.lines.specs.Statement.{start, nextNumber, counted, begun, fault, monthReply, opened, openingRead, billRead, criticalRead, runRead, monthEnd, runOrBillRead, expectedRead, lineRead};
+ghost use Rattle.lines.specs.Feeding.{registersOf};
+ghost use Rattle.progress.specs.Progressing.{stateOf, StandsFor, SaysStopped, Reads, RunsRead, Finishes};
+ghost use Rattle.progress.specs.Ending.{valuesWith, StandsAs, Ends, EndsAs, EndsWith, runAt, StandsAfter};
 use account::Account;
 use account::BillingReply;
 use hours::ByPeriod;
@@ -327,7 +328,7 @@ fn readings(register: &[u32], filled: usize) -> usize
 fn fill(register: &mut [u32], from: usize, to: usize, reading: u32)
     requires { ⌜ from ≤ to ⌝ }
     requires { ⌜ to ≤ length (now register) ⌝ }
-    ensures { λ r. ⌜ take to (now (register .exit)) ≡ take from (now (register .entry)) ++ replicate (to - from) reading ⌝ }
+    ensures { λ r. ⌜ now (register .exit) ≡ sets (now (register .entry)) from (replicate (to - from) reading) ⌝ }
 {
     let mut place = from;
     while place < to {
@@ -346,7 +347,7 @@ fn run_of(
     at: usize,
 ) -> Ended
     requires { ⌜ hasRoom (now out) at ≡ true ⌝ }
-    ensures { λ r. ⌜ Ends (now (out .entry)) at (runRead (numbers .first) (numbers .second) (numbers .third) (stateOf progress (now (delivered .entry)) (now (received .entry)))) (stateOf (r .progress) (now (delivered .exit)) (now (received .exit))) (now (out .exit)) (r .at) ⌝ }
+    ensures { λ r. ⌜ EndsWith (now (out .entry)) at (registersOf (now (delivered .entry)) (now (received .entry))) (runRead (numbers .first) (numbers .second) (numbers .third) (stateOf progress (now (delivered .entry)) (now (received .entry)))) (stateOf (r .progress) (now (delivered .exit)) (now (received .exit))) (registersOf (now (delivered .exit)) (now (received .exit))) (now (out .exit)) (r .at) ⌝ }
 {
     let filled = readings(delivered, progress.filled);
     let more = numbers.first as usize;
@@ -408,7 +409,7 @@ fn run_or_bill_line(
     at: usize,
 ) -> Ended
     requires { ⌜ hasRoom (now out) at ≡ true ⌝ }
-    ensures { λ r. ⌜ Ends (now (out .entry)) at (runOrBillRead (now (line .entry)) (stateOf progress (now (delivered .entry)) (now (received .entry)))) (stateOf (r .progress) (now (delivered .exit)) (now (received .exit))) (now (out .exit)) (r .at) ⌝ }
+    ensures { λ r. ⌜ EndsWith (now (out .entry)) at (registersOf (now (delivered .entry)) (now (received .entry))) (runOrBillRead (now (line .entry)) (stateOf progress (now (delivered .entry)) (now (received .entry)))) (stateOf (r .progress) (now (delivered .exit)) (now (received .exit))) (registersOf (now (delivered .exit)) (now (received .exit))) (now (out .exit)) (r .at) ⌝ }
 {
     let numbers = grammar::run_line(line);
     if numbers.count != 0 {
@@ -477,7 +478,7 @@ fn expected_line(
     at: usize,
 ) -> Ended
     requires { ⌜ hasRoom (now out) at ≡ true ⌝ }
-    ensures { λ r. ⌜ Ends (now (out .entry)) at (expectedRead (now (line .entry)) (stateOf progress (now (delivered .entry)) (now (received .entry)))) (stateOf (r .progress) (now (delivered .exit)) (now (received .exit))) (now (out .exit)) (r .at) ⌝ }
+    ensures { λ r. ⌜ EndsWith (now (out .entry)) at (registersOf (now (delivered .entry)) (now (received .entry))) (expectedRead (now (line .entry)) (stateOf progress (now (delivered .entry)) (now (received .entry)))) (stateOf (r .progress) (now (delivered .exit)) (now (received .exit))) (registersOf (now (delivered .exit)) (now (received .exit))) (now (out .exit)) (r .at) ⌝ }
 {
     let expected = progress.expected;
     if expected < BILL_EXPECTED {
@@ -528,7 +529,7 @@ impl Progress {
         out: &mut [u8],
         at: usize,
     ) -> Ended
-        ensures { λ r. ⌜ Reads (now (out .entry)) at (stateOf self (now (delivered .entry)) (now (received .entry))) (lineRead (now (line .entry)) (stateOf self (now (delivered .entry)) (now (received .entry)))) (stateOf (r .progress) (now (delivered .exit)) (now (received .exit))) (now (out .exit)) (r .at) ⌝ }
+        ensures { λ r. ⌜ Reads (now (out .entry)) at (registersOf (now (delivered .entry)) (now (received .entry))) (stateOf self (now (delivered .entry)) (now (received .entry))) (lineRead (now (line .entry)) (stateOf self (now (delivered .entry)) (now (received .entry)))) (stateOf (r .progress) (now (delivered .exit)) (now (received .exit))) (registersOf (now (delivered .exit)) (now (received .exit))) (now (out .exit)) (r .at) ⌝ }
     {
         if printing::has_room(out, at) {
             return expected_line(count(self), line, delivered, received, out, at);
@@ -543,7 +544,7 @@ impl Progress {
         delivered: &mut [u32; 2976],
         received: &mut [u32; 2976],
     ) -> Ran
-        ensures { λ r. ⌜ RunsRead (stateOf self (now (delivered .entry)) (now (received .entry))) (now (input .entry)) (r .taken) (stateOf (r .progress) (now (delivered .exit)) (now (received .exit))) ⌝ }
+        ensures { λ r. ⌜ RunsRead (stateOf self (now (delivered .entry)) (now (received .entry))) (registersOf (now (delivered .entry)) (now (received .entry))) (now (input .entry)) (r .taken) (stateOf (r .progress) (now (delivered .exit)) (now (received .exit))) (registersOf (now (delivered .exit)) (now (received .exit))) ⌝ }
     {
         if self.expected != RUN_EXPECTED {
             return Ran {
@@ -576,7 +577,7 @@ impl Progress {
 
     // The end of the input after a whole line: writes the text that is left, where there is room, and says where it ends.
     pub fn finish(self, delivered: &[u32], received: &[u32], out: &mut [u8], at: usize) -> usize
-        ensures { λ r. ⌜ Put (now (out .entry)) at (atEnd (stateOf self (now (delivered .entry)) (now (received .entry)))) (now (out .exit)) r ⌝ }
+        ensures { λ r. ⌜ Finishes (now (out .entry)) at (registersOf (now (delivered .entry)) (now (received .entry))) (stateOf self (now (delivered .entry)) (now (received .entry))) (registersOf (now (delivered .exit)) (now (received .exit))) (now (out .exit)) r ⌝ }
     {
         if self.expected == BILL_EXPECTED {
             return at;

@@ -1,5 +1,6 @@
 -- `progress::expected_line` asks what is expected in the order of the definition.
 use Rattle.progress.specs.Progressing.{stateOf}
+use Rattle.progress.proofs.Filling.{ends-same}
 use Rattle.progress.proofs.Lines.{quiet, ends-by}
 use Rattle.lines.proofs.Laws.{expected-opening, expected-bill, expected-critical, expected-later, expected-none}
 use borrow.Author.Needs.{needs}
@@ -28,7 +29,7 @@ returns c =
     let e = st .args .received .now in
     let l = st .args .line .now in
     let s = stateOf (st .args .progress) d e in
-    ends-by _ _ _ _ _ _ _ (expected-opening l s (c .before .before .before .before .if1 .taken)) (c .before .before .opening-line .ensures d e)
+    ends-same (c .before .before .opening-line .result .progress) d e (ends-by _ _ _ _ _ _ _ (expected-opening l s (c .before .before .before .before .if1 .taken)) (c .before .before .opening-line .ensures d e))
 
 -- src/lib.rt:326:9
 bill-line-requires : tie.Need-bill-line-requires
@@ -46,7 +47,7 @@ returns-2 c =
     let e = st .args .received .now in
     let l = st .args .line .now in
     let s = stateOf (st .args .progress) d e in
-    ends-by _ _ _ _ _ _ _ (expected-bill l s (c .before .before .before .before .before .if1 .left) (c .before .before .before .before .if2 .taken)) (c .before .before .bill-line .ensures d e)
+    ends-same (c .before .before .bill-line .result .progress) d e (ends-by _ _ _ _ _ _ _ (expected-bill l s (c .before .before .before .before .before .if1 .left) (c .before .before .before .before .if2 .taken)) (c .before .before .bill-line .ensures d e))
 
 -- src/lib.rt:329:9
 critical-line-requires : tie.Need-critical-line-requires
@@ -64,7 +65,7 @@ returns-3 c =
     let e = st .args .received .now in
     let l = st .args .line .now in
     let s = stateOf (st .args .progress) d e in
-    ends-by _ _ _ _ _ _ _ (expected-critical l s (c .before .before .before .before .before .before .if1 .left) (c .before .before .before .before .before .if2 .left) (c .before .before .before .before .if3 .taken)) (c .before .before .critical-line .ensures d e)
+    ends-same (c .before .before .critical-line .result .progress) d e (ends-by _ _ _ _ _ _ _ (expected-critical l s (c .before .before .before .before .before .before .if1 .left) (c .before .before .before .before .before .if2 .left) (c .before .before .before .before .if3 .taken)) (c .before .before .critical-line .ensures d e))
 
 -- src/lib.rt:332:9
 run-or-bill-line-requires : tie.Need-run-or-bill-line-requires
@@ -82,7 +83,8 @@ returns-4 c =
     let e = st .args .received .now in
     let l = st .args .line .now in
     let s = stateOf (st .args .progress) d e in
-    ends-by _ _ _ _ _ _ _ (expected-later l s (c .before .before .before .before .before .before .before .before .before .if1 .left) (c .before .before .before .before .before .before .before .before .if2 .left) (c .before .before .before .before .before .before .before .if3 .left) (c .before .before .before .before .before .before .if4 .taken)) (c .before .before .run-or-bill-line .ensures)
+    let line = c .before .before .run-or-bill-line .ensures in
+    record { ends = ends-by _ _ _ _ _ _ _ (expected-later l s (c .before .before .before .before .before .before .before .before .before .if1 .left) (c .before .before .before .before .before .before .before .before .if2 .left) (c .before .before .before .before .before .before .before .if3 .left) (c .before .before .before .before .before .before .if4 .taken)) (line .ends); registers = line .registers }
 
 -- src/lib.rt:310:1
 returns-5 : tie.Need-returns-5
@@ -92,7 +94,7 @@ returns-5 c =
     let e = st .args .received .now in
     let l = st .args .line .now in
     let s = stateOf (st .args .progress) d e in
-    quiet (st .args .out .now) (st .args .at) _ _ (expected-none l s (c .before .before .before .if1 .left) (c .before .before .if2 .left) (c .before .if3 .left) (c .if4 .left))
+    ends-same (st .args .progress) d e (quiet (st .args .out .now) (st .args .at) _ _ (expected-none l s (c .before .before .before .if1 .left) (c .before .before .if2 .left) (c .before .if3 .left) (c .if4 .left)))
 
 pub expected-line-spec : {M : Type 1} → statement M
 expected-line-spec =

@@ -1,24 +1,24 @@
--- `progress::fill` stores one reading after the other: `Stores` has the step.
+-- `progress::fill` stores one reading after the other: `Filling` has the step.
 use mathlib.Core.Path.{_≡_, refl, _∙_}
-use mathlib.Core.List.{_++_}
 use Prim.Native.Nat.{_≤_, _-_}
 use native.Mathlib.Omega.{arith}
-use lib.ListN.{length, take, replicate, length-set}
-use Rattle.progress.proofs.Stores.{filled-none, filled-more}
+use lib.ListN.{length, replicate, length-set}
+use lib.Seq.{sets}
+use Rattle.progress.proofs.Filling.{filled-none, filled-more}
 use Rattle.progress.proofs.fill.Statement.{statement}
 use Rattle.progress.proofs.fill.Tie as tie
 
 abbrev Inv-loop : tie.InvT-loop
 Inv-loop register₀ from to reading place₀ register place =
     (from ≤ place) × (place ≤ to) × (length register ≡ length register₀)
-    × (take place register ≡ take from register₀ ++ replicate (place - from) reading)
+    × (register ≡ sets register₀ from (replicate (place - from) reading))
 
 abbrev μ-loop : tie.MeasureT-loop
 μ-loop register₀ from to reading place₀ register place = to - place
 
 loop-holds : tie.Need-loop-holds Inv-loop μ-loop
 loop-holds c =
-    (omega arith, omega arith, refl, filled-none (take (c .args .from) (c .args .register .now)) (c .args .from) (c .args .reading))
+    (omega arith, omega arith, refl, filled-none (c .args .register .now) (c .args .from) (c .args .reading))
 
 mul-register : tie.Need-mul-register Inv-loop μ-loop
 mul-register c = omega arith
@@ -39,7 +39,7 @@ loop-again c =
       omega arith,
       omega arith,
       length-set (lp .register) (lp .place) (args .reading) ∙ lp .inv .2,
-      filled-more (lp .register) (take (args .from) (args .register .now)) (args .from) (lp .place) (args .reading) (lp .inv .0) (omega arith) (lp .inv .3),
+      filled-more (args .register .now) (lp .register) (args .from) (lp .place) (args .reading) (lp .inv .0) (lp .inv .3),
     )
 
 same-length : tie.Need-same-length Inv-loop μ-loop

@@ -1,6 +1,6 @@
 -- `progress::run_of` stops at a run past the most readings: `Runs` has both cases.
-use Rattle.progress.specs.Progressing.{stateOf}
-use Rattle.progress.proofs.Lines.{quiet, ends-by}
+use Rattle.progress.proofs.Filling.{ends-same}
+use Rattle.progress.proofs.Lines.{ends-by}
 use Rattle.progress.proofs.Runs.{run-past, run-fits}
 use borrow.Author.Needs.{needs}
 use Rattle.progress.proofs.run_of.Statement.{statement}
@@ -35,10 +35,11 @@ same-length c = search needs
 returns : tie.Need-returns
 returns c =
     let st = c .before .before .before .before .before .before .before .before .before .before in
-    ends-by _ _ _ _ _ _ _
+    ends-same (c .before .before .fault-at .result .progress) (st .args .delivered .now) (st .args .received .now)
+    (ends-by _ _ _ _ _ _ _
     (run-past (st .args .progress) (st .args .delivered .now) (st .args .received .now) (st .args .numbers .first) (st .args .numbers .second) (st .args .numbers .third)
     _ (c .before .before .before .before .before .before .readings .ensures) (c .before .before .before .before .if1 .taken))
-    (c .before .before .fault-at .ensures (st .args .delivered .now) (st .args .received .now))
+    (c .before .before .fault-at .ensures (st .args .delivered .now) (st .args .received .now)))
 
 -- src/lib.rt:236:15
 add-end : tie.Need-add-end
@@ -56,9 +57,8 @@ fill-requires-2 c κs = search needs
 returns-2 : tie.Need-returns-2
 returns-2 c =
     let st = c .before .before .before .before .before .before .before .before .before .before in
-    quiet (st .args .out .now) (st .args .at) _ _
-    (run-fits (st .args .progress) (st .args .delivered .now) (st .args .received .now) _ _ (st .args .numbers .first) (st .args .numbers .second) (st .args .numbers .third)
-    _ (c .before .before .before .before .before .before .before .readings-arg2 .given .0) (c .before .fill-arg2 .given .0 .1) (c .before .before .before .before .before .before .readings .ensures) (c .before .before .before .before .if1 .left) (c .before .before .fill .ensures) (c .fill2 .ensures))
+    run-fits (st .args .progress) (st .args .delivered .now) (st .args .received .now) _ _ (st .args .numbers .first) (st .args .numbers .second) (st .args .numbers .third)
+    _ (c .before .before .before .before .before .before .before .readings-arg2 .given .0) (c .before .fill-arg2 .given .0 .1) (c .before .before .before .before .before .before .readings .ensures) (c .before .before .before .before .if1 .left) (c .before .before .fill .ensures) (c .fill2 .ensures) (st .args .out .now) (st .args .at)
 
 pub run-of-spec : {M : Type 1} → statement M
 run-of-spec =

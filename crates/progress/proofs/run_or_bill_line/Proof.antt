@@ -1,5 +1,6 @@
 -- `progress::run_or_bill_line` reads a run, or ends the month at the next bill line.
 use Rattle.progress.specs.Progressing.{stateOf}
+use Rattle.progress.proofs.Filling.{ends-same}
 use Rattle.progress.proofs.Lines.{ends-by, month-begins}
 use Rattle.lines.proofs.Laws.{later-run, later-no, later-bill}
 use borrow.Author.Needs.{needs}
@@ -31,7 +32,8 @@ returns : tie.Need-returns
 returns c =
     let st = c .before .before .before .before .before .before .before .before .before .before .before in
     let s = stateOf (st .args .progress) (st .args .delivered .now) (st .args .received .now) in
-    ends-by _ _ _ _ _ _ _ (later-run (st .args .line .now) s _ (c .before .before .before .before .before .before .before .before .run-line .ensures) (c .before .before .before .before .before .before .if1 .taken)) (c .before .before .run-of .ensures)
+    let run = c .before .before .run-of .ensures in
+    record { ends = ends-by _ _ _ _ _ _ _ (later-run (st .args .line .now) s _ (c .before .before .before .before .before .before .before .before .run-line .ensures) (c .before .before .before .before .before .before .if1 .taken)) (run .ends); registers = run .registers }
 
 -- src/lib.rt:297:9
 bill-line-requires : tie.Need-bill-line-requires
@@ -51,9 +53,10 @@ returns-2 c =
     let st = c .before .before .before .before .before .before .before .before .before .before .before .before in
     let d = st .args .delivered .now in
     let e = st .args .received .now in
-    ends-by _ _ _ _ _ _ _
+    ends-same (c .before .before .fault-at .result .progress) d e
+    (ends-by _ _ _ _ _ _ _
     (later-no (st .args .line .now) (stateOf (st .args .progress) d e) _ (c .before .before .before .before .before .before .before .before .before .run-line .ensures) _ (c .before .before .before .before .before .before .bill-line .ensures) (c .before .before .before .before .before .before .before .if1 .left) (c .before .before .before .before .if2 .taken))
-    (c .before .before .fault-at .ensures d e)
+    (c .before .before .fault-at .ensures d e))
 
 -- src/lib.rt:301:9
 end-month-requires : tie.Need-end-month-requires
@@ -73,9 +76,10 @@ returns-3 c =
     let st = c .before .before .before .before .before .before .before .before .before .before .before .before .before .before .before .before .before .before in
     let d = st .args .delivered .now in
     let e = st .args .received .now in
-    month-begins _ _ _ _ (st .args .line .now) (stateOf (st .args .progress) d e) _ _ _
+    ends-same (c .begin-month .result) d e
+    (month-begins _ _ _ _ (st .args .line .now) (stateOf (st .args .progress) d e) _ _ _
     (later-bill (st .args .line .now) (stateOf (st .args .progress) d e) _ (c .before .before .before .before .before .before .before .before .before .before .before .before .before .before .before .run-line .ensures) _ (c .before .before .before .before .before .before .before .before .before .before .before .before .bill-line .ensures) (c .before .before .before .before .before .before .before .before .before .before .before .before .before .if1 .left) (c .before .before .before .before .before .before .before .before .before .before .if2 .left))
-    (c .before .before .before .before .end-month .ensures) (c .begin-month .ensures d e)
+    (c .before .before .before .before .end-month .ensures) (c .begin-month .ensures d e))
 
 pub run-or-bill-line-spec : {M : Type 1} → statement M
 run-or-bill-line-spec =

@@ -1,5 +1,5 @@
 -- `progress::Progress::finish` asks what is expected in the order of the definition.
-use mathlib.Core.Path.{sym, _∙_, ap}
+use mathlib.Core.Path.{refl, sym, _∙_, ap}
 use Rattle.printing.specs.Printing.{lineText}
 use Rattle.lines.specs.Statement.{atEnd}
 use Rattle.progress.specs.Progressing.{stateOf}
@@ -20,14 +20,14 @@ returns : tie.Need-returns
 returns c =
     let st = c .before .before .before .before .before in
     let s = stateOf (st .args .self) (st .args .delivered .now) (st .args .received .now) in
-    put-nothing (st .args .out .now) (st .args .at) (atEnd s) (end-opened s (c .if1 .taken))
+    record { text = put-nothing (st .args .out .now) (st .args .at) (atEnd s) (end-opened s (c .if1 .taken)); registers = refl }
 
 -- src/lib.rt:386:13
 returns-2 : tie.Need-returns-2
 returns-2 c =
     let st = c .before .before .before .before .before .before .before in
     let s = stateOf (st .args .self) (st .args .delivered .now) (st .args .received .now) in
-    put-nothing (st .args .out .now) (st .args .at) (atEnd s) (end-stopped s (c .before .before .if1 .left) (c .if2 .taken))
+    record { text = put-nothing (st .args .out .now) (st .args .at) (atEnd s) (end-stopped s (c .before .before .if1 .left) (c .if2 .taken)); registers = refl }
 
 -- src/lib.rt:389:17
 bill-requires : tie.Need-bill-requires
@@ -46,7 +46,7 @@ returns-3 : tie.Need-returns-3
 returns-3 c =
     let st = c .before .before .before .before .before .before .before .before .before .before .before .before .before .before .before in
     let s = stateOf (st .args .self) (st .args .delivered .now) (st .args .received .now) in
-    puts-by _ _ _ _ _ _ (end-month s _ (c .before .before .before .before .before .bill .ensures) (c .before .before .before .before .before .before .before .before .before .before .if1 .left) (c .before .before .before .before .before .before .before .before .if2 .left) (c .before .before .before .before .before .before .if3 .taken)) (c .before .before .put-bill .ensures)
+    record { text = puts-by _ _ _ _ _ _ (end-month s _ (c .before .before .before .before .before .bill .ensures) (c .before .before .before .before .before .before .before .before .before .before .if1 .left) (c .before .before .before .before .before .before .before .before .if2 .left) (c .before .before .before .before .before .before .if3 .taken)) (c .before .before .put-bill .ensures); registers = refl }
 
 -- src/lib.rt:393:37
 next-number-requires : tie.Need-next-number-requires
@@ -65,9 +65,12 @@ returns-4 : tie.Need-returns-4
 returns-4 c =
     let st = c .before .before .before .before .before .before .before .before .before .before .before .before .before .before in
     let s = stateOf (st .args .self) (st .args .delivered .now) (st .args .received .now) in
-    puts-by _ _ _ _ _ _
-    (end-absent s (c .before .before .before .before .before .before .before .before .before .if1 .left) (c .before .before .before .before .before .before .before .if2 .left) (c .before .before .before .before .before .if3 .left) ∙ ap lineText (sym (c .before .before .before .next-number .ensures)))
-    (c .before .before .put-line .ensures)
+    record {
+      text = puts-by _ _ _ _ _ _
+          (end-absent s (c .before .before .before .before .before .before .before .before .before .if1 .left) (c .before .before .before .before .before .before .before .if2 .left) (c .before .before .before .before .before .if3 .left) ∙ ap lineText (sym (c .before .before .before .next-number .ensures)))
+          (c .before .before .put-line .ensures);
+      registers = refl;
+    }
 
 pub finish-spec : {M : Type 1} → statement M
 finish-spec =

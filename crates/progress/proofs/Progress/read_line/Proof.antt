@@ -1,6 +1,7 @@
 -- `progress::Progress::read_line` counts the line and reads it, where there is room.
-use mathlib.Core.Path.{sym, _∙_}
+use mathlib.Core.Path.{refl, sym, _∙_}
 use Rattle.progress.specs.Progressing.{stateOf}
+use Rattle.lines.proofs.Buffers.{readings-same}
 use Rattle.progress.proofs.Lines.{reads-some, reads-none, read-by}
 use borrow.Author.Needs.{needs}
 use Rattle.progress.proofs.Progress.read_line.Statement.{statement}
@@ -34,8 +35,8 @@ returns c =
     let d = st .args .delivered .now in
     let e = st .args .received .now in
     let s = stateOf (st .args .self) d e in
-    reads-some (st .args .out .now) (st .args .at) s _ _ _ _ (sym (c .before .before .before .before .before .before .before .before .has-room .ensures) ∙ c .before .before .before .before .before .before .before .if1 .taken)
-    (read-by (st .args .out .now) (st .args .at) _ _ (st .args .line .now) s _ _ (c .before .before .before .before .before .before .count .ensures d e) (c .before .before .expected-line .ensures))
+    reads-some (st .args .out .now) (st .args .at) _ s _ _ _ _ _ (sym (c .before .before .before .before .before .before .before .before .has-room .ensures) ∙ c .before .before .before .before .before .before .before .if1 .taken)
+    (read-by (st .args .out .now) (st .args .at) _ _ _ _ (st .args .line .now) s _ _ (c .before .before .before .before .before .before .count .ensures d e) (c .before .before .expected-line .ensures))
 
 -- src/lib.rt:362:5
 same-length-2 : tie.Need-same-length-2
@@ -43,7 +44,13 @@ same-length-2 c = search needs
 
 -- src/lib.rt:362:5
 returns-2 : tie.Need-returns-2
-returns-2 c = reads-none _ _ _ _ (sym (c .before .has-room .ensures) ∙ c .if1 .left)
+returns-2 c =
+    let args = c .before .before .before .before .before .args in
+    let x = args .self in
+    let d = args .delivered .now in
+    let e = args .received .now in
+    reads-none _ _ _ _ _ (sym (c .before .has-room .ensures) ∙ c .if1 .left)
+    (readings-same (stateOf x d e) (x .filled) d e refl refl)
 
 pub read-line-spec : {M : Type 1} → statement M
 read-line-spec =

@@ -1,20 +1,23 @@
 -- `progress::Progress::read_runs` takes one run line after the other: `RunLines` has the turns.
-use mathlib.Core.Path.{_≡_}
+use mathlib.Core.Path.{_≡_, refl}
 use Prim.Native.Nat.{_+_, _-_, _≤_}
 use native.Mathlib.Omega.{arith}
 use borrow.Author.Needs.{needs}
 use lib.ListN.{length, take, drop, length-take, length-drop}
+use Rattle.lines.specs.Feeding.{registersOf}
 use Rattle.progress.specs.Progressing.{stateOf}
 use Rattle.progress.specs.Ending.{ranTo}
+use Rattle.lines.proofs.Buffers.{readings-same}
 use Rattle.progress.proofs.RunLines.{Running, running-start, running-none, running-all, running-more, loop-start, none-expected, ran-to}
-use Rattle.progress.proofs.RunLines.{turn-none, turn-expected, turn-bytes, turn-within, turn-fits, turn-state}
+use Rattle.progress.proofs.RunLines.{turn-none, turn-expected, turn-bytes, turn-within, turn-fits, turn-state, turn-registers}
 use Rattle.progress.proofs.Progress.read_runs.Statement.{statement}
 use Rattle.progress.proofs.Progress.read_runs.Tie as tie
 
 abbrev Inv-loop : tie.InvT-loop
 Inv-loop self input delivered₀ received₀ number₀ filled₀ taken₀ delivered received number filled taken =
-    (filled ≤ 2976) × (length delivered ≡ 2976)
-    × Running (stateOf self delivered₀ received₀) input taken (ranTo self number (take filled delivered) (take filled received))
+    (filled ≤ 2976) × (length delivered ≡ 2976) × (length received ≡ 2976)
+    × Running (stateOf self delivered₀ received₀) (registersOf delivered₀ received₀) input taken
+    (ranTo self number (take filled delivered) (take filled received)) (registersOf delivered received)
 
 abbrev μ-loop : tie.MeasureT-loop
 μ-loop self input delivered₀ received₀ number₀ filled₀ taken₀ delivered received number filled taken = length input - taken
@@ -22,7 +25,10 @@ abbrev μ-loop : tie.MeasureT-loop
 returns : tie.Need-returns Inv-loop μ-loop
 returns c =
     let args = c .before .before .before .args in
-    none-expected (stateOf (args .self) (args .delivered .now) (args .received .now)) (args .input .now) (c .if1 .taken)
+    let x = args .self in
+    let d = args .delivered .now in
+    let e = args .received .now in
+    none-expected (stateOf x d e) (registersOf d e) (args .input .now) (c .if1 .taken) (readings-same (stateOf x d e) (x .filled) d e refl refl)
 
 readings-requires : tie.Need-readings-requires Inv-loop μ-loop
 readings-requires c κs = search needs
@@ -39,9 +45,11 @@ loop-holds c =
     let wide : length e ≡ 2976 = c .before .before .before .before .readings-arg2 .given .0 in (
       omega (arith, c .readings2 .ensures, long, wide),
       long,
-      running-start _ _ (args .input .now)
+      wide,
+      running-start _ _ _ (args .input .now)
           (loop-start (args .self) d e (c .before .readings .result) (c .readings2 .result) long wide
-          (c .before .readings .ensures) (c .readings2 .ensures)),
+          (c .before .readings .ensures) (c .readings2 .ensures))
+          (readings-same _ (c .readings2 .result) d e refl refl),
     )
 
 sub-next-run : tie.Need-sub-next-run Inv-loop μ-loop
@@ -72,10 +80,10 @@ returns-2 c =
     let rest = take (length input - taken) (drop taken input) in
     let s = ranTo (args .self) (lp .loop .number) (take (lp .loop .filled) d) (take (lp .loop .filled) e) in
     let before = stateOf (args .self) (args .delivered .now) (args .received .now) in
-    ran-to before s (stateOf (c .with-runs .result) d e) input taken (c .with-runs .ensures d e)
-    (running-none before s input taken (lp .loop .inv .2)
+    ran-to before s (stateOf (c .with-runs .result) d e) _ _ input taken (c .with-runs .ensures d e)
+    (running-none before s _ _ input taken (lp .loop .inv .3)
     (turn-none (args .self) (lp .loop .number) (lp .loop .filled) d e rest (else .if1 .left) (lp .loop .inv .1)
-    (lp .loop .inv .0) (next .next-run .result) (next .next-run .ensures) (c .before .if2 .taken)))
+    (lp .loop .inv .2) (lp .loop .inv .0) (next .next-run .result) (next .next-run .ensures) (c .before .if2 .taken)))
 
 add-fill : tie.Need-add-fill Inv-loop μ-loop
 add-fill c =
@@ -176,12 +184,16 @@ loop-again c =
     let s = ranTo x (lp .number) (take n d) (take n e) in (
       omega (arith, turn-fits (lp .filled) rest (next .result) (next .ensures) some),
       omega (arith, made .kept .0, lp .inv .1),
-      running-more (stateOf x (args .delivered .now) (args .received .now)) s input (lp .taken) (lp .inv .2)
+      omega (arith, given .kept .0, lp .inv .2),
+      running-more (stateOf x (args .delivered .now) (args .received .now)) s _ _ input (lp .taken) (lp .inv .3)
           (ranTo x (number .result) (take (n + next .result .count) (made .last .0)) (take (n + next .result .count) (given .last .0)))
-          (next .result .bytes) (turn-expected x (lp .number) n d e rest expected (lp .inv .1) (lp .inv .0) (next .result) (next .ensures) some)
+          (registersOf (made .last .0) (given .last .0)) (next .result .bytes)
+          (turn-expected x (lp .number) n d e rest expected (lp .inv .1) (lp .inv .2) (lp .inv .0) (next .result) (next .ensures) some)
           (turn-bytes n rest (next .result) (next .ensures) some)
-          (turn-state x (lp .number) n d e rest expected (lp .inv .1) (lp .inv .0) (next .result) (next .ensures) some
-          (made .last .0) (given .last .0) (number .result) (number .ensures) (made .ensures) (given .ensures)),
+          (turn-state x (lp .number) n d e rest expected (lp .inv .1) (lp .inv .2) (lp .inv .0) (next .result) (next .ensures) some
+          (made .last .0) (given .last .0) (number .result) (made .ensures) (given .ensures) (number .ensures))
+          (turn-registers x (lp .number) n d e rest expected (lp .inv .1) (lp .inv .2) (lp .inv .0) (next .result) (next .ensures) some
+          (made .last .0) (given .last .0) (number .result) (made .ensures) (given .ensures) _ (lp .inv .3 .registers)),
     )
 
 with-runs-requires-2 : tie.Need-with-runs-requires-2 Inv-loop μ-loop
@@ -195,8 +207,8 @@ returns-3 c =
     let e = lp .loop .received in
     let s = ranTo (args .self) (lp .loop .number) (take (lp .loop .filled) d) (take (lp .loop .filled) e) in
     let before = stateOf (args .self) (args .delivered .now) (args .received .now) in
-    ran-to before s (stateOf (c .with-runs2 .result) d e) (args .input .now) (lp .loop .taken) (c .with-runs2 .ensures d e)
-    (running-all before s (args .input .now) (lp .loop .taken) (lp .loop .inv .2) (c .before .loop-test .left))
+    ran-to before s (stateOf (c .with-runs2 .result) d e) _ _ (args .input .now) (lp .loop .taken) (c .with-runs2 .ensures d e)
+    (running-all before s _ _ (args .input .now) (lp .loop .taken) (lp .loop .inv .3) (c .before .loop-test .left))
 
 pub read-runs-spec : {M : Type 1} → statement M
 read-runs-spec =
