@@ -6,25 +6,21 @@ only proved otherwise, no log tells: the edit's reader judges it.)
 
 Wrong programs share a file, and so a check, only where each changes bodies of functions and constants alone, and no two reach the same function:
 a function is proved against contracts, so that none of them can be what breaks another's fact. A public function has at least two that reach it
-or a function of its crate that it calls.
+or a function of its crate that it calls. The functions are those that the prover names.
 """
 import glob
 import os
 import re
-import sys
+
+from source import Unreadable, crates, enter, finish, read, source
 
 HEAD = re.compile(r"^# (\w+), refused at ([\w:]+): ([\w-]+)$")
-FUNCTION = re.compile(r'^( *)(?:pub )?(?:extern "C" )?fn (\w+)(?:.*\n)*?\1\{\n((?:.*\n)*?)\1\}\n', re.M)
-CONSTANT = re.compile(r"^(?:pub )?const (\w+): .*?;\n", re.M | re.S)
-COMMENT = re.compile(r"//.*|/\*(?:.|\n)*?\*/")
-PUBLIC = re.compile(r'^ *pub (?:extern "C" )?fn (\w+)', re.M)
 FOLLOWS = "was not admitted (it has holes or undetermined implicits, or was rejected), so this cannot be checked"
 OTHER_FACTS = ("has no `Need-", "has no `Tie`", "has no field")
 
 
-def read(path):
-    with open(path, encoding="utf-8") as file:
-        return file.read()
+def edits(crate):
+    return sorted(glob.glob(f"crates/{crate}/must-fail/*.edit"))
 
 
 def wrong_programs(path):
@@ -46,36 +42,45 @@ def wrong_programs(path):
 
 
 def code(crate, replacements=()):
-    """The code of a crate after replacements: the body of each function, each constant, and under "" all else."""
-    parts = {"": ""}
-    for path in sorted(glob.glob(f"crates/{crate}/src/*.rt")):
-        text = read(path)
+    """The code of a crate after replacements: the body of each function, each constant, and all else."""
+
+    def edited(name, text):
         for file, old, new in replacements:
-            if path.endswith(f"/{file}"):
-                text = text.replace(old, new)
-        text = COMMENT.sub("", text)
-        for pattern, name, body in ((FUNCTION, 2, 3), (CONSTANT, 1, 0)):
-            parts |= {found.group(name): " ".join(found.group(body).split()) for found in pattern.finditer(text)}
-            text = pattern.sub(lambda found: found.group(0).replace(found.group(body), ""), text)
-        parts[""] += " ".join(text.split())
-    return parts
+            text = text.replace(old, new) if file == name else text
+        return text
+
+    found = source(crate, edited)
+    return {one.path: one.body for one in found.functions}, {one.path: one.text for one in found.constants}, found.rest
+
+
+def differ(before, after):
+    return {name for name in before | after if before.get(name) != after.get(name)}
+
+
+def users(constants, parts):
+    """The parts that use one of some constants."""
+    names = "|".join(re.escape(path.split("::")[-1]) for path in constants)
+    return {name for name, text in parts.items() if constants and re.search(rf"\b(?:{names})\b", text)}
 
 
 def reached(crate, replacements):
     """The functions whose bodies replacements change, or that use a constant that they change; "" where they change anything else."""
-    before, after = code(crate), code(crate, replacements)
-    found, left = set(), [name for name in before | after if before.get(name) != after.get(name)]
-    while left:
-        name = left.pop()
-        if name not in found:
-            found.add(name)
-            left += [user for user in before if name.isupper() and re.search(rf"\b{name}\b", before[user])]
-    return {name for name in found if not name.isupper()}
+    (bodies, constants, rest), after = code(crate), code(crate, replacements)
+    changed, more = set(), differ(constants, after[1])
+    while more - changed:
+        changed |= more
+        more = users(changed, constants)
+    return differ(bodies, after[0]) | users(changed, bodies) | ({""} if rest != after[2] else set())
+
+
+def log_of(name):
+    """A log that `rt ci` leaves; where there is none, nothing was tried and nothing proved."""
+    return read(f"target/{name}") if os.path.exists(f"target/{name}") else ""
 
 
 def failing(crate, label):
     """The facts that a log shows to fail by themselves (place and name), and whether there are other facts than before."""
-    log, facts = read(f"target/must-fail/{crate}/{label}/.log"), set()
+    log, facts = log_of(f"must-fail/{crate}/{label}/.log"), set()
     for path, name, message in re.findall(rf"^\S*/must-fail/{crate}/{label}/(\S+?):\d+:\d+: error: `([^`]*)`: (.*)$", log, re.M):
         if FOLLOWS not in message:
             place = path.removeprefix("proofs/").removesuffix(".antt").removesuffix("/Proof")
@@ -103,45 +108,64 @@ def faults_of(path):
             faults.append(f"{name}: it changes a proof")
         if len(programs) > 1:
             shared += sorted(functions)
-            if "" in functions or place.split("::")[-1] not in functions or any(not file.startswith("src/") for file, _, _ in replacements):
+            if "" in functions or place not in functions or any(not file.startswith("src/") for file, _, _ in replacements):
                 faults.append(f"{name}: a wrong definition or contract, or a fact of another function, has a file of its own")
     faults += [f"two wrong programs reach {name}" for name in sorted(set(shared)) if shared.count(name) > 1]
     return [f"{path}: {fault}" for fault in faults]
 
 
-def called(name, functions):
-    """A function and all of its crate that it calls."""
-    found, left = set(), [name]
+def calls(one, other):
+    """Whether a function calls another of its crate: a method by a dot or by its type, any other by its name alone or by its module."""
+    owner, _, name = other.path.rpartition("::")
+    before = {found[0] or found[1] for found in re.findall(rf"(?:(\w+) :: |(\.) )?\b{name} \(", one.body)}
+    if other.method:
+        return bool(before & {".", owner.split("::")[-1], "Self"})
+    return bool(before & {"", owner.split("::")[-1], "self", "super", "crate"})
+
+
+def called(function, functions):
+    """The paths of a function and of all of its crate that it calls."""
+    found, left = set(), [function]
     while left:
-        name = left.pop()
-        if name not in found:
-            found.add(name)
-            left += [other for other in functions if re.search(rf"\b{other}\(", functions[name])]
+        one = left.pop()
+        if one.path not in found:
+            found.add(one.path)
+            left += [other for other in functions if calls(one, other)]
     return found
 
 
 def faults_of_crate(crate):
     """Names that stand twice, and public functions with fewer than two wrong programs."""
-    programs = [program for path in sorted(glob.glob(f"crates/{crate}/must-fail/*.edit")) for program in wrong_programs(path)[0]]
+    programs = [program for path in edits(crate) for program in wrong_programs(path)[0]]
     names = [name for name, _, _, _ in programs]
     faults = [f"crates/{crate}: two wrong programs named {name}" for name in sorted(set(names)) if names.count(name) > 1]
-    functions = {name: body for name, body in code(crate).items() if name and not name.isupper()}
-    reach = [reached(crate, replacements) | {place.split("::")[-1]} for _, place, _, replacements in programs]
-    for path in sorted(glob.glob(f"crates/{crate}/src/*.rt")):
-        for name in PUBLIC.findall(read(path)):
-            count = sum(1 for some in reach if some & called(name, functions))
-            faults += [f"crates/{crate}: {count} wrong programs for {name}"] if count < 2 else []
+    functions = source(crate).functions
+    reach = [reached(crate, replacements) | {place} for _, place, _, replacements in programs]
+    for function in (function for function in functions if function.public):
+        paths = called(function, functions)
+        count = sum(1 for some in reach if some & paths)
+        faults += [f"crates/{crate}: {count} wrong programs for {function.path}"] if count < 2 else []
     return faults
 
 
+def unseen(crate):
+    """The functions that only one of the prover and the reader of these scripts finds."""
+    proved = set(re.findall(rf"^fn {crate}::(\S+): proved$", log_of(f"log/{crate}.out"), re.M))
+    return [f"crates/{crate}: found by the prover or the reader alone: {path}" for path in sorted(proved ^ set(code(crate)[0]))]
+
+
 def main():
-    paths = sorted(glob.glob("crates/*/must-fail/*.edit"))
-    faults = [fault for path in paths for fault in faults_of(path)]
-    faults += [fault for path in sorted(glob.glob("crates/*/src")) for fault in faults_of_crate(path.split("/")[1])]
-    if faults:
-        sys.exit("\n".join(faults))
+    enter()
+    listed, faults = crates(), []
+    paths = [path for crate in listed for path in edits(crate)]
+    try:
+        faults += [fault for path in paths for fault in faults_of(path)]
+        faults += [fault for crate in listed for fault in faults_of_crate(crate) + unseen(crate)]
+    except Unreadable as error:
+        faults.append(f"{error}")
     count = sum(len(wrong_programs(path)[0]) for path in paths)
-    print(f"{count} wrong programs in {len(paths)} checks, each refused where it says")
+    finish(faults, f"{count} wrong programs in {len(paths)} checks, each refused where it says")
 
 
-main()
+if __name__ == "__main__":
+    main()
