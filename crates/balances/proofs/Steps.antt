@@ -9,8 +9,6 @@ use Rattle.hours.specs.Hours.{byPeriod}
 use Rattle.hours.specs.declared.ByPeriod.{ByPeriod}
 use Rattle.registers.specs.Registers.{sumOf, demandPower, monthLimit}
 use Rattle.registers.proofs.Totals.{total-within}
-use Rattle.tariff.specs.declared.Terms.{Terms}
-use Rattle.tariff.specs.declared.PriceList.{PriceList}
 use Rattle.charges.specs.Charges.{totalOf}
 use Rattle.billing.specs.Billing.{noBill}
 use Rattle.account.specs.declared.Stage.the-variants.{Fresh}

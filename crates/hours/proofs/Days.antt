@@ -1,17 +1,17 @@
 -- Days counted one by one, and bits of the number that names them: the set bits below bit n are the critical days among the first n,
 -- and a day after day a is critical exactly where the number shifted by a is not 0.
-use mathlib.Core.Path.{_≡_, refl, ap, _∙_, sym}
-use mathlib.Core.Bool.{Bool, false, cond, not, _||_, or-false, or-true}
+use mathlib.Core.Path.{_≡_, refl}
+use mathlib.Core.Bool.{false, cond, not, _||_, or-false, or-true}
 use Prim.Native.Nat.{ℕ, zero, suc, _+_, _-_, _*_, _/_, _%_, _^_, _≤_, _<_}
 use native.Mathlib.Nat.{add-suc, zero-add, zero-mul, mod-one, mod-lt, div-eq-of-lt}
 use native.Mathlib.Numerals.{one-add}
 use native.Mathlib.Omega.{arith}
-use borrow.Author.Tests.{le-leb, eq-eqb, ne-eqb, eqb-true, eqb-false}
+use borrow.Author.Tests.{le-leb, ne-eqb}
 use lib.Arith.{digits-mod}
 use lib.Bits.{bitAnd, and-high}
-use lib.Dec.{leb, eqb}
-use lib.Count.{ones, ones-step, ones-cat}
-use lib.Pow.{mod-pow-add, pow-add, pow-lt, pow-mono, shr-shr, pow-pos}
+use lib.Dec.{eqb}
+use lib.Count.{ones, ones-cat}
+use lib.Pow.{mod-pow-add, pow-mono, shr-shr, pow-pos}
 use Rattle.hours.specs.CriticalDays.{isCritical, criticalCount, criticalAfter}
 
 -- The bit of the day after day n.
@@ -51,7 +51,7 @@ either zero p r h k = rw (zero-mul, zero-add, or-false)
 either (suc zero) p r h k = let e : 1 * p + r ≡ 0 → ⊥ = omega arith in rw (or-true, ne-eqb _ _ e)
 either (suc (suc b)) p r h k = absurd (omega arith)
 
-pub after-shift : (x a n : ℕ) → criticalAfter x a n ≡ not (eqb (x / 2 ^ a % 2 ^ n) 0)
+after-shift : (x a n : ℕ) → criticalAfter x a n ≡ not (eqb (x / 2 ^ a % 2 ^ n) 0)
 unfolding criticalAfter
 after-shift x a zero = rw mod-one
 after-shift x a (suc n) =

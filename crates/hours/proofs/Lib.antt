@@ -1,2 +1,2 @@
-pub mod Days
+mod Days
 pub mod Laws

@@ -1,6 +1,6 @@
 -- Document 01, "Calendar and hours", last paragraph, and refusal 9 of the table: the number that names the critical days.
 -- x is that number, 32 bits wide; d is a day, and 1 the first. Day 0 is none.
-use mathlib.Core.Bool.{Bool, true, false, cond, _&&_, _||_}
+use mathlib.Core.Bool.{Bool, false, cond, _&&_, _||_}
 use Prim.Native.Nat.{ℕ, zero, suc, _+_, _-_, _/_, _%_, _^_}
 use lib.Dec.{eqb, leb, ltb}
 use Rattle.calendar.specs.Calendar.{daysIn}

@@ -1,6 +1,6 @@
 -- Document 01, "Calendar and hours": the periods, the schedule and the critical days' effect.
 -- s is a season, k a kind of day, q a quarter of a day, p a period; m, d and j are as in the calendar.
-use mathlib.Core.Bool.{Bool, true, false, cond, _&&_, _||_}
+use mathlib.Core.Bool.{Bool, false, cond, _&&_, _||_}
 use mathlib.Core.List.{List, [], _∷_, _++_}
 use Prim.Native.Nat.{ℕ, zero, suc, _+_}
 use lib.Dec.{eqb, leb}

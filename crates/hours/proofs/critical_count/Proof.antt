@@ -1,5 +1,4 @@
 -- `hours::critical_count` counts bits, and each is a day.
-use mathlib.Core.Path.{sym}
 use native.Mathlib.Nat.{mod-eq-of-lt}
 use Rattle.hours.proofs.Days.{count-ones}
 use Rattle.hours.proofs.critical_count.Statement.{statement}

@@ -1,7 +1,6 @@
 -- `hours::fixed_schedule`: the table's window rule by one computed test, since antt computes the 384 entries from the windows and compares
 -- them with the table.
 use mathlib.Core.Path.{refl}
-use mathlib.Core.List.{_++_}
 use Rattle.hours.specs.Hours.{fixedSchedule, windows, windowPeriod, isOnPeak}
 use Rattle.hours.proofs.fixed_schedule.Statement.{statement}
 use Rattle.hours.proofs.fixed_schedule.Tie as tie

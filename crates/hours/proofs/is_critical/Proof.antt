@@ -1,6 +1,6 @@
 -- `hours::is_critical` takes the day's bit; days that are no bit of the number aren't critical.
 use borrow.Author.Needs.{needs}
-use borrow.Author.Tests.{le-leb, lt-leb}
+use borrow.Author.Tests.{le-leb}
 use native.Mathlib.Omega.{arith}
 use lib.Bits.{and-mask}
 use Rattle.hours.specs.CriticalDays.{isCritical}

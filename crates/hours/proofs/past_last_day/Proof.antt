@@ -1,6 +1,5 @@
 -- `hours::past_last_day` masks the bits past the month's last day.
 use borrow.Author.Needs.{needs}
-use mathlib.Core.Path.{_∙_}
 use native.Mathlib.Omega.{arith}
 use Rattle.calendar.proofs.Laws.{daysIn-le}
 use Rattle.hours.specs.CriticalDays.{pastLastDay}
