@@ -1,12 +1,12 @@
--- What is readable is short, gives as many numbers as are asked for, and they fit 32 bits: words, and what stands after a key.
+-- What is readable is short and gives as many numbers as are asked for: words, and what stands after a key.
 use mathlib.Core.Path.{_≡_, refl}
 use mathlib.Core.Bool.{Bool, true, false, cond}
 use mathlib.Core.List.{List, [], _∷_}
-use Prim.Native.Nat.{ℕ, _+_, _^_, _≤_, _<_}
+use Prim.Native.Nat.{ℕ, _+_, _≤_, _<_}
 use native.Mathlib.Omega.{arith}
 use borrow.Author.Tests.{ne-eqb}
-use lib.ListN.{length, getD, drop, length-drop}
-use Rattle.numerals.proofs.Sizes.{Reader, Short, Few, Below, one-few, one-below}
+use lib.ListN.{length, drop, length-drop}
+use Rattle.numerals.proofs.Sizes.{Reader, Short, Few, one-few}
 use Rattle.grammar.specs.Grammar.{beginsWith, isText, choiceIn, keyed}
 
 -- One of two words.
@@ -22,14 +22,6 @@ choice-few first second l = by (isText first l) (isText second l)
     by : (a b : Bool) → length {A = ℕ} (cond a (0 ∷ []) (cond b (1 ∷ []) [])) ≤ 1
     by true b = omega arith
     by false b = one-few b 1
-
-pub choice-below : (first second : List ℕ) → Below (2 ^ 32) (choiceIn first second)
-unfolding choiceIn
-choice-below first second l = by (isText first l) (isText second l)
-  where
-    by : (a b : Bool) (i : ℕ) → getD (cond a (0 ∷ []) (cond b (1 ∷ []) [])) i 0 < 2 ^ 32
-    by true b i = one-below (2 ^ 32) true 0 (omega arith) (λ e. omega arith) i
-    by false b i = one-below (2 ^ 32) b 1 (omega arith) (λ e. omega arith) i
 
 -- What holds of none and of what is read after a key.
 pub keyed-either : (P : List ℕ → Type 0) (key : List ℕ) (read : Reader) (l : List ℕ)
@@ -48,6 +40,3 @@ module _ (key : List ℕ) (read : Reader) where
 
   pub keyed-few : (n : ℕ) → Few n read → Few n (keyed key read)
   keyed-few n few l = keyed-either (λ xs. length xs ≤ n) key read l (omega arith) (few (drop (length key) l))
-
-  pub keyed-below : (n : ℕ) → 0 < n → Below n read → Below n (keyed key read)
-  keyed-below n z below l i = keyed-either (λ xs. getD xs i 0 < n) key read l z (below (drop (length key) l) i)

@@ -78,10 +78,6 @@ module _ (l : List ℕ) where
   number-is p q d h = simp (le-leb _ _ p, le-leb _ _ q, d, lt-ltb _ _ h)
 
 -- What was read of a part tells whether it is a number, and its value.
-pub number-fits : (l : List ℕ) → isNumber l ≡ true → valueOf l < 2 ^ 32
-unfolding isNumber
-number-fits l e = ltb-true _ _ (and-both (leb 1 (length l) && leb (length l) 10 && allDigits l) (ltb (valueOf l) (2 ^ 32)) e .1)
-
 module _ (l : List ℕ) (r : Numbers) (e : r ≡ numbersAs (numberIn l)) where
   pub read-none : r .count ≡ 0 → isNumber l ≡ false
   unfolding numberIn

@@ -1,79 +1,46 @@
--- What is readable is short, gives as many numbers as are asked for, and they fit 32 bits: numbers and months.
+-- What is readable is short and gives as many numbers as are asked for: numbers and months.
 use mathlib.Core.Path.{_≡_, refl, _∙_}
 use mathlib.Core.Bool.{Bool, true, false, cond, _&&_}
 use mathlib.Core.List.{List, [], _∷_, map}
 use mathlib.Core.Logic.{_⊎_, inl, inr}
-use Prim.Native.Nat.{ℕ, zero, suc, _+_, _-_, _*_, _^_, _≤_, _<_}
+use Prim.Native.Nat.{ℕ, _+_, _-_, _*_, _^_, _≤_, _<_}
 use native.Mathlib.Omega.{arith}
 use borrow.Author.Tests.{eqb-true, leb-true}
 use lib.Dec.{eqb, leb, ltb}
-use lib.ListN.{length, getD, take, drop, length-map}
-use Rattle.calendar.specs.Calendar.{monthNumber}
+use lib.ListN.{length, length-map}
 use Rattle.calendar.proofs.Booleans.{and-both}
-use Rattle.numerals.specs.Numerals.{isDigit, allDigits, valueAfter, valueOf, isNumber, numberIn, isMonth, monthIn}
+use Rattle.numerals.specs.Numerals.{allDigits, valueOf, isNumber, numberIn, isMonth, monthIn}
 use Rattle.numerals.specs.Numerals.{onFirst, partsOf, allNumbers, numbersIn}
-use Rattle.numerals.proofs.Digits.{number-fits}
 use Rattle.numerals.proofs.Months.{month-length}
 use Rattle.numerals.proofs.Parts.{parts-some}
 
 abbrev pub Reader : Type 0
 Reader = List ℕ → List ℕ
 
--- Nothing is readable that is longer than n bytes; there are at most n numbers; each is below n.
+-- Nothing is readable that is longer than n bytes; there are at most n numbers.
 abbrev pub Short : ℕ → Reader → Type 0
 Short n read = (l : List ℕ) → n < length l → read l ≡ []
 
 abbrev pub Few : ℕ → Reader → Type 0
 Few n read = (l : List ℕ) → length (read l) ≤ n
 
-abbrev pub Below : ℕ → Reader → Type 0
-Below n read = (l : List ℕ) (i : ℕ) → getD (read l) i 0 < n
-
 -- One number or none.
 pub one-few : (t : Bool) (x : ℕ) → length (cond t (x ∷ []) []) ≤ 1
 one-few true x = omega arith
 one-few false x = omega arith
-
-pub one-below : (n : ℕ) (t : Bool) (x : ℕ) → 0 < n → (t ≡ true → x < n) → (i : ℕ) → getD (cond t (x ∷ []) []) i 0 < n
-one-below n true x z h zero = h refl
-one-below n true x z h (suc i) = z
-one-below n false x z h i = z
 
 -- A number.
 pub number-few : Few 1 numberIn
 unfolding numberIn
 number-few l = one-few (isNumber l) (valueOf l)
 
-pub number-below : Below (2 ^ 32) numberIn
-unfolding numberIn
-number-below l = one-below (2 ^ 32) (isNumber l) (valueOf l) (omega arith) (number-fits l)
-
 -- A month.
-month-in-range : (l : List ℕ) → isMonth l ≡ true → monthNumber (valueOf (take 4 l)) (valueOf (drop 5 l)) < 96000
-unfolding isMonth
-month-in-range l e =
-    let long = eqb (length l) 7 in
-    let dash = eqb (getD l 4 0) 45 in
-    let year = isNumber (take 4 l) in
-    let month = isNumber (drop 5 l) in
-    let from = leb 2000 (valueOf (take 4 l)) in
-    let to = leb (valueOf (take 4 l)) 9999 in
-    let first = leb 1 (valueOf (drop 5 l)) in
-    let (e, last) = and-both (long && dash && year && month && from && to && first) (leb (valueOf (drop 5 l)) 12) e in
-    let (e, _) = and-both (long && dash && year && month && from && to) first e in
-    let (e, up) = and-both (long && dash && year && month && from) to e in
-    omega (arith, leb-true (valueOf (take 4 l)) 9999 up, leb-true (valueOf (drop 5 l)) 12 last)
-
 pub month-short : Short 7 monthIn
 month-short l h = month-length l (λ e. omega arith)
 
 pub month-few : Few 1 monthIn
 unfolding monthIn
 month-few l = one-few (isMonth l) _
-
-pub month-below : Below 96000 monthIn
-unfolding monthIn
-month-below l = one-below 96000 (isMonth l) _ (omega arith) (month-in-range l)
 
 -- A number has at most ten digits.
 number-digits : (l : List ℕ) → isNumber l ≡ true → length l ≤ 10
@@ -108,12 +75,6 @@ all-spread (p ∷ ps) e =
     let (here, next) = and-both (isNumber p) (allNumbers ps) e in
     omega (arith, number-digits p here, all-spread ps next)
 
-all-below : (ps : List (List ℕ)) → allNumbers ps ≡ true → (i : ℕ) → getD (map valueOf ps) i 0 < 2 ^ 32
-unfolding allNumbers
-all-below [] e i = omega arith
-all-below (p ∷ ps) e zero = number-fits p (and-both (isNumber p) (allNumbers ps) e .0)
-all-below (p ∷ ps) e (suc i) = all-below ps (and-both (isNumber p) (allNumbers ps) e .1) i
-
 -- What holds of none and of as many numbers as are asked for.
 numbers-either : (P : List ℕ → Type 0) (n : ℕ) (l : List ℕ) → P []
     → (length (partsOf l) ≡ n → allNumbers (partsOf l) ≡ true → P (map valueOf (partsOf l)))
@@ -129,9 +90,6 @@ numbers-either P n l none some = by (eqb (length (partsOf l)) n) (allNumbers (pa
 pub numbers-short : (n : ℕ) → Short (11 * n - 1) (numbersIn n)
 numbers-short n l h =
     numbers-either (λ xs. xs ≡ []) n l refl (λ e f. absurd (omega (arith, parts-spread l, all-spread (partsOf l) f)))
-
-pub numbers-below : (n : ℕ) → Below (2 ^ 32) (numbersIn n)
-numbers-below n l i = numbers-either (λ xs. getD xs i 0 < 2 ^ 32) n l (omega arith) (λ e f. all-below (partsOf l) f i)
 
 pub numbers-all : (n : ℕ) (l : List ℕ) → (length (numbersIn n l) ≡ 0) ⊎ (length (numbersIn n l) ≡ n)
 numbers-all n l =
