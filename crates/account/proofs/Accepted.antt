@@ -12,10 +12,11 @@ use Rattle.hours.specs.CriticalDays.{criticalRefused}
 use Rattle.registers.specs.Registers.{lengthRefused, readingRefused}
 use Rattle.tariff.specs.declared.Terms.{Terms}
 use Rattle.tariff.specs.declared.PriceList.{PriceList}
-use Rattle.tariff.specs.Tariff.{someOver, pricesRefused, capacityRefused, bridgeRefused}
+use Rattle.tariff.specs.Tariff.{someOver, pricesRefused}
 use Rattle.charges.specs.Charges.{carriedLimit, standingLimit}
 use Rattle.billing.specs.Billing.{amountsOf}
 use Rattle.refusals.specs.Table.{openingRow, repricingRow, billingRow}
+use Rattle.refusals.proofs.Laws.{Contents, contents-hold, contents-free, contents-repriced, contents-passed}
 use Rattle.account.specs.declared.Stage.{Stage}
 use Rattle.account.specs.declared.Stage.the-variants.{Fresh, Open, Closed}
 use Rattle.account.specs.declared.Account.{Account}
@@ -47,21 +48,13 @@ arises a e =
     record { carried = carried; standing = ltb-false _ _ standing; next = ltb-false _ _ next }
 
 -- What an open account that can arise holds.
-pub record Contents (t : Terms) (l : PriceList) : Type 0 where
-  pub prices : pricesRefused l ≡ false
-  pub capacity : capacityRefused t ≡ false
-  pub bridge : bridgeRefused t ≡ false
-
 contents : (t : Terms) (l : PriceList) → contentsRefused t l ≡ false → Contents t l
 unfolding contentsRefused
-contents t l e =
-    let (front, bridge) = or-neither (pricesRefused l || capacityRefused t) (bridgeRefused t) e in
-    let (prices, capacity) = or-neither (pricesRefused l) (capacityRefused t) front in
-    record { prices = prices; capacity = capacity; bridge = bridge }
+contents t l e = contents-hold t l e
 
 pub contents-accepted : (t : Terms) (l : PriceList) → Contents t l → contentsRefused t l ≡ false
 unfolding contentsRefused
-contents-accepted t l k = rw (k .prices, k .capacity, k .bridge)
+contents-accepted t l k = contents-free t l k
 
 -- An account that rows 1 and 3 don't refuse is open, can arise, and holds what an opening accepts.
 pub record Usable (a : Account) : Type 0 where
@@ -97,13 +90,11 @@ unfolding openingNumber openingRow unusable
 opening-accepted a t l m e =
     let (notOpen, e3) = pass (isOpen (a .stage)) 1 _ e in
     let (able, e4) = pass (isClosed (a .stage) || cantArise a) 2 _ e3 in
-    let (prices, e5) = pass (pricesRefused l) 3 _ e4 in
-    let (capacity, e6) = pass (capacityRefused t) 4 _ e5 in
-    let (bridge, e7) = pass (bridgeRefused t) 5 _ e6 in
+    let (holds, e7) = contents-passed t l _ e4 in
     let (month, _) = pass (ltb lastMonth m) 6 0 e7 in
     record {
       stage = fresh-stage (a .stage) notOpen (or-neither (isClosed (a .stage)) (cantArise a) able .0);
-      holds = record { prices = prices; capacity = capacity; bridge = bridge };
+      holds = holds;
       month = ltb-false _ _ month;
     }
 
@@ -114,7 +105,7 @@ repricing-accepted a l e =
     let (f, e3) = pass (isFresh (a .stage)) 0 _ e in
     let (u, e4) = pass (unusable a) 2 _ e3 in
     let k : Usable a = usable a f u in
-    (k, record { prices = pass (pricesRefused l) 3 0 e4 .0; capacity = k .holds .capacity; bridge = k .holds .bridge })
+    (k, contents-repriced (a .terms) (a .prices) (k .holds) l (pass (pricesRefused l) 3 0 e4 .0))
 
 -- An accepted billing.
 pub record BillingAccepted (a : Account) (m : ℕ) (delivered received : List ℕ) (x : ℕ) : Type 0 where

@@ -11,8 +11,8 @@ use Rattle.charges.specs.Charges.{carriedLimit, standingLimit}
 use Rattle.billing.specs.Billing.{amountsOf}
 use Rattle.tariff.specs.declared.Terms.{Terms}
 use Rattle.tariff.specs.declared.PriceList.{PriceList}
-use Rattle.tariff.specs.Tariff.{someOver, pricesRefused, capacityRefused, bridgeRefused}
-use Rattle.refusals.specs.Table.{openingRow, repricingRow, billingRow, closingRow}
+use Rattle.tariff.specs.Tariff.{someOver}
+use Rattle.refusals.specs.Table.{someApplies, contentsRows, openingRow, repricingRow, billingRow, closingRow}
 use Rattle.account.specs.declared.Stage.{Stage}
 use Rattle.account.specs.declared.Stage.the-variants.{Fresh, Open, Closed}
 use Rattle.account.specs.declared.Account.{Account}
@@ -39,7 +39,7 @@ highestNext = lastMonth + 1
 
 -- "contents that an opening's checks placed between 3 and 7 (here 4, 5 and 6) refuse"
 unfoldable pub contentsRefused : Terms → PriceList → Bool
-contentsRefused t l = pricesRefused l || capacityRefused t || bridgeRefused t
+contentsRefused t l = someApplies (contentsRows t l)
 
 -- "one that can't arise: a carried period above 4,000,000,000,000 Wh, standing above 4,000,000,000,000 cents, next month above 1200, or,
 -- where open, contents that" the checks refuse.

@@ -5,7 +5,7 @@ ghost use mathlib.Core.Bool.{_||_};
 ghost use Prim.Native.Nat.{_≤_};
 ghost use Rattle.calendar.specs.Calendar.{lastMonth};
 ghost use Rattle.account.specs.Refusals.{isFresh, isOpen, isClosed};
-ghost use Rattle.account.specs.Refusals.{contentsRefused, cantArise, unusable};
+ghost use Rattle.account.specs.Refusals.{cantArise, unusable};
 ghost use Rattle.account.specs.Account.{freshAccount, afterBill, openingReply, repricingReply, billingReply, closingReply};
 ghost use Rattle.account.specs.Tallies.{replyFrom};
 use billing::Bill;
@@ -89,19 +89,6 @@ fn is_closed(stage: Stage) -> bool
     }
 }
 
-// Whether an opening's checks refuse what an account holds.
-fn contents_refused(terms: Terms, prices: PriceList) -> bool
-    ensures { λ r. ⌜ r ≡ contentsRefused terms prices ⌝ }
-{
-    if tariff::prices_refused(prices) {
-        return true;
-    }
-    if tariff::capacity_refused(terms) {
-        return true;
-    }
-    tariff::bridge_refused(terms)
-}
-
 // Whether an account can't arise.
 fn cant_arise(account: Account) -> bool
     ensures { λ r. ⌜ r ≡ cantArise account ⌝ }
@@ -120,7 +107,7 @@ fn cant_arise(account: Account) -> bool
         return true;
     }
     if is_open(stage) {
-        return contents_refused(terms, prices);
+        return refusals::contents_row(terms, prices) != 0;
     }
     false
 }

@@ -2,8 +2,8 @@
 -- what the account is, and next is its next month; t are terms, l is a price list, m a month; wronglength, wrongdays and abovelimit say whether
 -- rows 8, 9 and 10 apply. The words of the rows: 1 not open, 2 open already, 3 closed, 4 price list, 5 capacity, 6 no bridge, 7 month, 8 register
 -- length, 9 critical days, 10 reading, 11 book full.
-use mathlib.Core.Bool.{Bool, cond, not}
-use mathlib.Core.List.{List, [], _∷_}
+use mathlib.Core.Bool.{Bool, false, cond, not, _||_}
+use mathlib.Core.List.{List, [], _∷_, _++_}
 use Prim.Native.Nat.{ℕ}
 use lib.Dec.{eqb, ltb}
 use Rattle.calendar.specs.Calendar.{lastMonth}
@@ -25,17 +25,19 @@ abbrev pub firstOf : List Row → ℕ
 firstOf [] = 0
 firstOf (r ∷ rs) = cond (r .applies) (r .number) (firstOf rs)
 
--- The number of the first row that applies, for each call. Opening: rows 2 ("opening an open account"), 3, 4, 5, 6, 7 ("first month above 1199").
+-- Whether one of the rows applies.
+abbrev pub someApplies : List Row → Bool
+someApplies [] = false
+someApplies (r ∷ rs) = r .applies || someApplies rs
+
+-- "an opening's checks placed between 3 and 7 (here 4, 5 and 6)": those of what an account then holds.
+unfoldable pub contentsRows : Terms → PriceList → List Row
+contentsRows t l = row 4 (pricesRefused l) ∷ row 5 (capacityRefused t) ∷ row 6 (bridgeRefused t) ∷ []
+
+-- The number of the first row that applies, for each call. Opening: rows 2 ("opening an open account"), 3, those checks, 7 ("first month above
+-- 1199").
 unfoldable pub openingRow : Bool → Bool → Terms → PriceList → ℕ → ℕ
-openingRow opened unusable t l m =
-    firstOf
-    (row 2 opened
-    ∷ row 3 unusable
-    ∷ row 4 (pricesRefused l)
-    ∷ row 5 (capacityRefused t)
-    ∷ row 6 (bridgeRefused t)
-    ∷ row 7 (ltb lastMonth m)
-    ∷ [])
+openingRow opened unusable t l m = firstOf (row 2 opened ∷ row 3 unusable ∷ (contentsRows t l ++ row 7 (ltb lastMonth m) ∷ []))
 
 -- Repricing: rows 1 ("account fresh"), 3, 4.
 unfoldable pub repricingRow : Bool → Bool → PriceList → ℕ

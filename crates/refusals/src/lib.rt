@@ -1,8 +1,21 @@
 // The table of refusals of document 01: the number that each call is given, or 0.
 ghost use mathlib.Core.Path.{_≡_};
-ghost use Rattle.refusals.specs.Table.{openingRow, repricingRow, billingRow, closingRow};
+ghost use Rattle.refusals.specs.Table.{firstOf, contentsRows, openingRow, repricingRow, billingRow, closingRow};
 use tariff::PriceList;
 use tariff::Terms;
+
+// What an account holds: the rows of an opening between 3 and 7.
+pub fn contents_row(terms: Terms, prices: PriceList) -> u32
+    ensures { λ r. ⌜ r ≡ firstOf (contentsRows terms prices) ⌝ }
+{
+    if tariff::prices_refused(prices) {
+        return 4;
+    }
+    if tariff::capacity_refused(terms) {
+        return 5;
+    }
+    if tariff::bridge_refused(terms) { 6 } else { 0 }
+}
 
 // Opening an account that is open already or not, and that can be used or not.
 pub fn opening_row(opened: bool, unusable: bool, terms: Terms, prices: PriceList, month: u32) -> u32
@@ -14,14 +27,9 @@ pub fn opening_row(opened: bool, unusable: bool, terms: Terms, prices: PriceList
     if unusable {
         return 3;
     }
-    if tariff::prices_refused(prices) {
-        return 4;
-    }
-    if tariff::capacity_refused(terms) {
-        return 5;
-    }
-    if tariff::bridge_refused(terms) {
-        return 6;
+    let number = contents_row(terms, prices);
+    if number != 0 {
+        return number;
     }
     if calendar::LAST_MONTH < month { 7 } else { 0 }
 }

@@ -1,7 +1,8 @@
 -- `account::cant_arise` makes the definition's tests in turn.
 use borrow.Author.Needs.{needs}
 use borrow.Author.Tests.{lt-ltb, le-ltb}
-use Rattle.account.specs.Refusals.{cantArise}
+use Rattle.refusals.proofs.Laws.{contents-refuse}
+use Rattle.account.specs.Refusals.{contentsRefused, cantArise}
 use Rattle.account.proofs.cant_arise.Statement.{statement}
 use Rattle.account.proofs.cant_arise.Tie as tie
 
@@ -29,11 +30,11 @@ returns-3 c =
 is-open-requires : tie.Need-is-open-requires
 is-open-requires c κs = search needs
 
-contents-refused-requires : tie.Need-contents-refused-requires
-contents-refused-requires c κs = search needs
+contents-row-requires : tie.Need-contents-row-requires
+contents-row-requires c κs = search needs
 
 returns-4 : tie.Need-returns-4
-unfolding cantArise
+unfolding cantArise contentsRefused
 returns-4 c =
     rw (
       ← (c .before .before .before .before .before .before .before .before .some-over .ensures),
@@ -42,8 +43,9 @@ returns-4 c =
       le-ltb _ _ (c .before .before .before .if3 .left),
       ← (c .before .before .is-open .ensures),
       c .before .if4 .taken,
-      c .contents-refused .ensures,
+      c .contents-row .ensures,
     )
+    (contents-refuse _ _)
 
 returns-5 : tie.Need-returns-5
 unfolding cantArise
@@ -66,6 +68,6 @@ cant-arise-spec =
     returns-2
     returns-3
     is-open-requires
-    contents-refused-requires
+    contents-row-requires
     returns-4
     returns-5)
