@@ -326,6 +326,8 @@ impl Account {
         critical_days: u32,
     ) -> BillingReply
         ensures { λ r. ⌜ r ≡ billingReply self month (now (delivered .entry)) (now (received .entry)) «critical_days» ⌝ }
+        ensures { λ r. ⌜ now (delivered .exit) ≡ now (delivered .entry) ⌝ }
+        ensures { λ r. ⌜ now (received .exit) ≡ now (received .entry) ⌝ }
     {
         let stage = self.stage;
         let fresh = is_fresh(stage);

@@ -180,6 +180,8 @@ fn count_month(schedule: &[u8; 384], register: &[u32], month: u32, critical_days
 // All that a bill reads from one register.
 pub fn tally_of(schedule: &[u8; 384], register: &[u32], month: u32, critical_days: u32) -> Tally
     ensures { λ r. ⌜ r ≡ tallyOf (now (schedule .entry)) month «critical_days» (now (register .entry)) ⌝ }
+    ensures { λ r. ⌜ now (schedule .exit) ≡ now (schedule .entry) ⌝ }
+    ensures { λ r. ⌜ now (register .exit) ≡ now (register .entry) ⌝ }
 {
     if register.len() != calendar::month_length(month) {
         return Tally {
@@ -241,6 +243,8 @@ pub fn day_view<'a>(
     number: u32,
 ) -> &'a [u32]
     ensures { λ r. ⌜ IsPart (viewOf (delivered .entry) (received .entry) month day number) r ⌝ }
+    ensures { λ r. ⌜ now (delivered .exit) ≡ now (delivered .entry) ⌝ }
+    ensures { λ r. ⌜ now (received .exit) ≡ now (received .entry) ⌝ }
 {
     if empty_view(delivered, received, month, day, number) {
         return &delivered[0..0];

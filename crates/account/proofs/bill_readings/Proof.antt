@@ -22,8 +22,8 @@ found c =
     (c .before .before .before .before .before .before .before .before .before .before .is-fresh .ensures)
     (c .before .before .before .before .before .before .before .before .before .is-unusable .ensures)
     (c .before .before .before .before .before .before .before .before .fixed-schedule .ensures ∙ sym (schedule-is _))
-    (c .before .before .before .before .before .before .tally-of .ensures)
-    (c .before .before .before .before .tally-of2 .ensures)
+    (c .before .before .before .before .before .before .tally-of .ensures .0)
+    (c .before .before .before .before .tally-of2 .ensures .0)
     (c .before .before .before .either .ensures)
     (c .before .before .critical-refused .ensures)
     (c .before .either2 .ensures)
@@ -71,8 +71,8 @@ returns-2 c =
     ∙ accepted-reply
     _ _ _ _ _ _ _ _ _
     (c .before .before .before .before .before .before .before .before .before .before .fixed-schedule .ensures ∙ sym (schedule-is _))
-    (c .before .before .before .before .before .before .before .before .tally-of .ensures)
-    (c .before .before .before .before .before .before .tally-of2 .ensures)
+    (c .before .before .before .before .before .before .before .before .tally-of .ensures .0)
+    (c .before .before .before .before .before .before .tally-of2 .ensures .0)
     (found (c .before .before))
     (c .before .if1 .left)
 

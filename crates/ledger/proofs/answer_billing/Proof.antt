@@ -13,7 +13,7 @@ no-energy-requires c κs = tt
 
 returns : tie.Need-returns
 unfolding stepOf answerOf accountAfter
-returns c = rw (c .no-energy .ensures, c .before .before .before .billing .ensures)
+returns c = rw (c .no-energy .ensures, c .before .before .before .billing .ensures .0)
 
 pub answer-billing-spec : {M : Type 1} → statement M
 answer-billing-spec = tie.close (tie.spec billing-requires no-energy-requires returns)

@@ -35,7 +35,7 @@ returns c =
     let args = c .before .before .before .before .before .before .before .before .args in
     let taken = least-taken (args .delivered .now) (args .progress .filled) _ (c .before .before .before .before .readings .ensures) in
     let given = least-taken (args .received .now) (args .progress .filled) _ (c .before .before .before .readings2 .ensures) in
-    c .billing .ensures ∙ rw (taken, given)
+    c .billing .ensures .0 ∙ rw (taken, given)
 
 pub bill-spec : {M : Type 1} → statement M
 bill-spec =

@@ -49,7 +49,7 @@ part-result-end : tie.Need-part-result-end
 part-result-end c = search needs
 
 returns : tie.Need-returns
-returns c = empty-part _ _ _ _ _ _ (sym (c .before .before .empty-view .ensures) ∙ c .before .if1 .taken) refl refl
+returns c = (empty-part _ _ _ _ _ _ (sym (c .before .before .empty-view .ensures) ∙ c .before .if1 .taken) refl refl, (refl, refl))
 
 sub-readings-through : tie.Need-sub-readings-through
 sub-readings-through c = viewed _ _ _ _ _ (some-view c) .first
@@ -76,16 +76,18 @@ part-result-end-2 : tie.Need-part-result-end-2
 part-result-end-2 c = omega (arith, within (c .before), viewed _ _ _ _ _ (some-view (c .before .before .before)) .delivered-length)
 
 returns-2 : tie.Need-returns-2
-returns-2 c =
-    day-part
-    _ _ _ _ _ _
-    (some-view (c .before .before .before .before))
-    (c .before .before .before .before .before .before .before .before .args .delivered)
-    (rw (eq-eqb _ _ (c .before .if2 .taken)))
-    _ _
-    (c .before .before .before .readings-through .ensures)
-    (c .before .before .day-length .ensures)
-    refl refl
+returns-2 c = (
+  day-part
+      _ _ _ _ _ _
+      (some-view (c .before .before .before .before))
+      (c .before .before .before .before .before .before .before .before .args .delivered)
+      (rw (eq-eqb _ _ (c .before .if2 .taken)))
+      _ _
+      (c .before .before .before .readings-through .ensures)
+      (c .before .before .day-length .ensures)
+      refl refl,
+  (refl, refl),
+)
 
 mul-result-2 : tie.Need-mul-result-2
 mul-result-2 c = omega (arith, within (c .before), monthLength-le (c .before .before .before .before .before .before .before .args .month))
@@ -100,16 +102,18 @@ part-result-end-3 : tie.Need-part-result-end-3
 part-result-end-3 c = omega (arith, within (c .before), viewed _ _ _ _ _ (some-view (c .before .before .before)) .received-length)
 
 returns-3 : tie.Need-returns-3
-returns-3 c =
-    day-part
-    _ _ _ _ _ _
-    (some-view (c .before .before .before .before))
-    (c .before .before .before .before .before .before .before .before .args .received)
-    (rw (ne-eqb _ _ (c .before .if2 .left)))
-    _ _
-    (c .before .before .before .readings-through .ensures)
-    (c .before .before .day-length .ensures)
-    refl refl
+returns-3 c = (
+  day-part
+      _ _ _ _ _ _
+      (some-view (c .before .before .before .before))
+      (c .before .before .before .before .before .before .before .before .args .received)
+      (rw (ne-eqb _ _ (c .before .if2 .left)))
+      _ _
+      (c .before .before .before .readings-through .ensures)
+      (c .before .before .day-length .ensures)
+      refl refl,
+  (refl, refl),
+)
 
 pub day-view-spec : {M : Type 1} → statement M
 day-view-spec =
