@@ -7,7 +7,7 @@ use native.Mathlib.Omega.{arith}
 use borrow.Author.Tests.{le-leb, leb-true, leb-false}
 use lib.Dec.{leb}
 use lib.ListN.{length, take, length-append}
-use lib.Seq.{sets, length-sets}
+use lib.Seq.{sets, length-sets, length-take-le, take-take}
 use Rattle.printing.specs.Writing.{Wrote}
 use Rattle.lines.specs.Statement.{lastNumber}
 use Rattle.lines.specs.Feeding.{SoFar, ending}
@@ -45,16 +45,19 @@ chunk-front {chunk} {part} {chunkLater} {written} w h =
 
 module _ {before : SoFar} {chunk chunkLater text textLater : List ℕ} {i j written : ℕ} (room : leastRoom ≤ length chunk)
     (a : Adds text i (take written chunkLater) textLater j) where
-  -- A session is fed, and what it wrote is added. With so much room it takes some bytes.
-  pub fed-some : {input : List ℕ} {taken : ℕ} {later : SoFar} → Feeds before input chunk taken later written chunkLater
-      → FeedsSome before input text i taken later textLater j
-  fed-some {input} {taken} f =
-      let yes = rw (le-leb leastRoom (length chunk) room) at (f .takes) in
+  -- A session is fed a piece, and what it wrote is added. With so much room it takes some bytes.
+  pub fed-some : (input : List ℕ) (piece : ℕ) {taken : ℕ} {later : SoFar} → piece ≡ min (length input) 65536
+      → Feeds before (take piece input) chunk taken later written chunkLater → FeedsSome before input text i taken later textLater j
+  fed-some input piece {taken} e f =
+      let long : length (take piece input) ≡ piece = length-take-le piece input (omega arith) in
+      let within : taken ≤ piece = omega (arith, f .inside) in
+      let takes = rw (le-leb leastRoom (length chunk) room) at (f .takes) in
+      let bytes = take-take taken piece input within in
       record {
-        some = λ h. omega (arith, yes, taken-some (length chunk) before input (omega arith) h);
-        inside = f .inside;
-        stands = f .stands;
-        adds = rw (chunk-front (f .text) (f .fits)) at a;
+        some = λ h. omega (arith, takes, taken-some (length chunk) before (take piece input) (omega arith) (omega arith));
+        inside = omega arith;
+        stands = rw bytes at (f .stands);
+        adds = rw bytes at (rw (chunk-front (f .text) (f .fits)) at a);
       }
 
   -- The end of the input likewise.

@@ -10,6 +10,9 @@ ghost use Rattle.whole.specs.Adding.{Adds, FeedsSome};
 ghost use Rattle.whole.specs.Whole.{lengthOf};
 use session::Session;
 
+// The most bytes that a session is fed at once: between such pieces it is asked whether a fault has stopped it.
+const PIECE_BYTES: usize = 65536;
+
 // A session after bytes, how many it took, and where the text that follows goes.
 struct Fed {
     session: Session,
@@ -58,7 +61,7 @@ fn add(text: &mut [u8], place: usize, chunk: &[u8], bytes: usize) -> usize
     further(place, bytes)
 }
 
-// Feeds a session as many bytes as the chunk has room for what they print, and adds that to the text.
+// Feeds a session a piece of the input, or as much of it as the chunk has room for what it prints, and adds that to the text.
 fn feed_some(
     session: Session,
     line: &mut [u8; 51],
@@ -71,7 +74,8 @@ fn feed_some(
 ) -> Fed
     ensures { λ r. ⌜ FeedsSome (soFarOf session (now (line .entry)) (now (delivered .entry)) (now (received .entry))) (now (input .entry)) (now (text .entry)) place (r .taken) (soFarOf (r .session) (now (line .exit)) (now (delivered .exit)) (now (received .exit))) (now (text .exit)) (r .place) ⌝ }
 {
-    let fed = session.feed(line, delivered, received, input, chunk);
+    let piece = least(input.len(), PIECE_BYTES);
+    let fed = session.feed(line, delivered, received, &input[..piece], chunk);
     let later = fed.session;
     Fed {
         session: later,
