@@ -1,1 +1,1 @@
-mod Rest
+mod Giving

@@ -1,6 +1,8 @@
 // The program `statement`: feeds a session with standard input, and writes what it prints to standard output.
 ghost use Prim.Native.Nat.{_≤_};
 ghost use lib.ListN.{length};
+ghost use Rattle.session.specs.Sessions.{soFarOf};
+ghost use Rattle.statement.specs.Giving.{Gives};
 use libc::STDIN_FILENO;
 use libc::STDOUT_FILENO;
 use session::Session;
@@ -8,7 +10,7 @@ use session::Session;
 // A session after bytes, and whether there is a point in reading on: no fault has stopped it, and its texts could be written.
 struct Given {
     session: Session,
-    goes_on: bool,
+    going: bool,
 }
 
 // What one read brought: so many bytes, none at the end of the input, or a failure.
@@ -45,6 +47,7 @@ fn give(
     out: &mut [u8],
 ) -> Given
     requires { ⌜ 2048 ≤ length (now out) ⌝ }
+    ensures { λ r. ⌜ Gives (soFarOf session (now (line .entry)) (now (delivered .entry)) (now (received .entry))) (now (input .entry)) (soFarOf (r .session) (now (line .exit)) (now (delivered .exit)) (now (received .exit))) (r .going) ⌝ }
 {
     let mut session = session;
     let mut taken = 0;
@@ -55,13 +58,13 @@ fn give(
         if !write_front(out, fed.written) {
             return Given {
                 session,
-                goes_on: false,
+                going: false,
             };
         }
     }
     Given {
         session,
-        goes_on: !session.is_stopped(),
+        going: !session.is_stopped(),
     }
 }
 
@@ -93,7 +96,7 @@ fn main() {
             &input[..end],
             &mut out,
         );
-        if !given.goes_on {
+        if !given.going {
             return;
         }
         session = given.session;

@@ -1,23 +1,25 @@
--- `statement::give` ends, since a session takes at least one byte where there is room enough for texts.
+-- `statement::give` gives a session all bytes, piece by piece: `Giving` has the steps.
 use mathlib.Core.Path.{_≡_, refl, _∙_}
-use Prim.Native.Nat.{_≤_, _-_}
+use mathlib.Core.List.{[]}
+use Prim.Native.Nat.{_-_}
 use native.Mathlib.Omega.{arith}
 use borrow.Author.Needs.{needs}
 use lib.ListN.{length}
-use Rattle.statement.proofs.Rest.{rest-within, rest-some}
+use Rattle.session.specs.Sessions.{soFarOf}
+use Rattle.statement.proofs.Giving.{GivenSoFar, given-none, given-more, given-all, given-up}
 use Rattle.statement.proofs.give.Statement.{statement}
 use Rattle.statement.proofs.give.Tie as tie
 
 abbrev Inv-loop : tie.InvT-loop
 Inv-loop line₀ delivered₀ received₀ input out₀ session₀ taken₀ line delivered received out session taken =
-    (taken ≤ length input) × (length out ≡ length out₀)
+    (length out ≡ length out₀) × GivenSoFar (soFarOf session₀ line₀ delivered₀ received₀) input taken (soFarOf session line delivered received)
 
 abbrev μ-loop : tie.MeasureT-loop
 μ-loop line₀ delivered₀ received₀ input out₀ session₀ taken₀ line delivered received out session taken =
     length input - taken
 
 loop-holds : tie.Need-loop-holds Inv-loop μ-loop
-loop-holds c = (omega arith, refl)
+loop-holds c = (refl, given-none _ _)
 
 sub-feed : tie.Need-sub-feed Inv-loop μ-loop
 sub-feed c = omega arith
@@ -36,11 +38,10 @@ add-taken c =
     let fed = c .before .before .before .before in
     let inside = fed .before .before .before .before .before .before in
     let start = inside .before .before .before .before in
-    omega (
-      arith,
-      start .good .1 .1 .1 .1 .0 .0,
-      rest-within (start .args .input .now) (inside .before .loop .taken) (fed .feed .result .taken) (inside .loop-test .taken) (fed .feed .ensures .inside),
-    )
+    let later = soFarOf (fed .feed .result .session) (fed .feed .last .1 .0) (fed .feed .last .1 .1 .0) (fed .feed .last .1 .1 .1 .0) in
+    let given = given-more {later = later} (start .args .input .now) (inside .before .loop .taken) (omega (arith, inside .before .loop .inv .0, start .pre))
+    (inside .before .loop .inv .1) (inside .loop-test .taken) (fed .feed .ensures) .1 in
+    omega (arith, start .good .1 .1 .1 .1 .0 .0, given .inside)
 
 write-front-requires : tie.Need-write-front-requires Inv-loop μ-loop
 write-front-requires c κs =
@@ -50,40 +51,39 @@ write-front-requires c κs =
 same-length : tie.Need-same-length Inv-loop μ-loop
 same-length c =
     let fed = c .before .before .before .before .before .before .before in
-    fed .feed .kept .1 .1 .1 .1 .1 .0 ∙ fed .before .before .before .before .before .before .before .loop .inv .1
+    fed .feed .kept .1 .1 .1 .1 .1 .0 ∙ fed .before .before .before .before .before .before .before .loop .inv .0
 
 returns : tie.Need-returns Inv-loop μ-loop
-returns c = search needs
+returns c = given-up
 
 loop-less : tie.Need-loop-less Inv-loop μ-loop
 loop-less c =
     let fed = c .before .before .before .before .before .before .before in
     let inside = fed .before .before .before .before .before .before in
     let start = inside .before .before .before .before in
-    omega (
-      arith,
-      rest-within (start .args .input .now) (inside .before .loop .taken) (fed .feed .result .taken) (inside .loop-test .taken) (fed .feed .ensures .inside),
-      rest-some (start .args .input .now) (inside .before .loop .out) (inside .before .loop .taken) (fed .feed .result .taken) _ (inside .loop-test .taken)
-          (omega (arith, inside .before .loop .inv .1, start .pre)) (fed .feed .ensures .takes),
-    )
+    let later = soFarOf (fed .feed .result .session) (fed .feed .last .1 .0) (fed .feed .last .1 .1 .0) (fed .feed .last .1 .1 .1 .0) in
+    let given = given-more {later = later} (start .args .input .now) (inside .before .loop .taken) (omega (arith, inside .before .loop .inv .0, start .pre))
+    (inside .before .loop .inv .1) (inside .loop-test .taken) (fed .feed .ensures) .0 in
+    omega (arith, given)
 
 loop-again : tie.Need-loop-again Inv-loop μ-loop
 loop-again c =
     let fed = c .before .before .before .before .before .before .before in
     let inside = fed .before .before .before .before .before .before in
-    let start = inside .before .before .before .before in (
-      rest-within (start .args .input .now) (inside .before .loop .taken) (fed .feed .result .taken) (inside .loop-test .taken) (fed .feed .ensures .inside),
-      fed .feed .kept .1 .1 .1 .1 .1 .0 ∙ inside .before .loop .inv .1,
-    )
+    let start = inside .before .before .before .before in
+    let later = soFarOf (fed .feed .result .session) (fed .feed .last .1 .0) (fed .feed .last .1 .1 .0) (fed .feed .last .1 .1 .1 .0) in
+    let given = given-more {later = later} (start .args .input .now) (inside .before .loop .taken) (omega (arith, inside .before .loop .inv .0, start .pre))
+    (inside .before .loop .inv .1) (inside .loop-test .taken) (fed .feed .ensures) .1 in
+    (fed .feed .kept .1 .1 .1 .1 .1 .0 ∙ inside .before .loop .inv .0, given)
 
 is-stopped-requires : tie.Need-is-stopped-requires Inv-loop μ-loop
 is-stopped-requires c κs = search needs
 
 same-length-2 : tie.Need-same-length-2 Inv-loop μ-loop
-same-length-2 c = c .before .before .loop .inv .1
+same-length-2 c = c .before .before .loop .inv .0
 
 returns-2 : tie.Need-returns-2 Inv-loop μ-loop
-returns-2 c = search needs
+returns-2 c = given-all (c .before .before .loop .inv .1) (c .before .loop-test .left) (c .is-stopped .ensures [] _ _)
 
 pub give-spec : {M : Type 1} → statement M
 give-spec =

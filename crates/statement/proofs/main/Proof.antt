@@ -1,14 +1,18 @@
--- `statement::main` is safe and ends. The measure is the number of turns that are left; the buffers keep their lengths.
+-- `statement::main` is safe and ends. The measure is the number of turns that are left. The session stands for the bytes that it was given, one
+-- piece after the other; the buffers keep their lengths.
 use mathlib.Core.Path.{_≡_}
 use native.Mathlib.Omega.{arith}
 use borrow.Author.Needs.{needs}
+use borrow.Author.Tests.{not-false}
 use lib.ListN.{length, length-take}
+use Rattle.session.specs.Sessions.{soFarOf}
+use Rattle.statement.proofs.Giving.{Reached, reached-none, reached-more}
 use Rattle.statement.proofs.main.Statement.{statement}
 use Rattle.statement.proofs.main.Tie as tie
 
 abbrev Inv-loop : tie.InvT-loop
 Inv-loop line₀ delivered₀ received₀ input₀ out₀ session₀ turns₀ line delivered received input out session turns =
-    (65536 ≡ length input) × (65536 ≡ length out)
+    (65536 ≡ length input) × (65536 ≡ length out) × Reached (soFarOf session line delivered received)
 
 abbrev μ-loop : tie.MeasureT-loop
 μ-loop line₀ delivered₀ received₀ input₀ out₀ session₀ turns₀ line delivered received input out session turns =
@@ -24,7 +28,7 @@ start-requires : tie.Need-start-requires Inv-loop μ-loop
 start-requires c κs = search needs
 
 loop-holds : tie.Need-loop-holds Inv-loop μ-loop
-loop-holds c = (omega arith, omega arith)
+loop-holds c = (omega arith, omega arith, reached-none _ (c .start .ensures _ _ _))
 
 sub-turns : tie.Need-sub-turns Inv-loop μ-loop
 sub-turns c = omega arith
@@ -57,7 +61,10 @@ loop-less : tie.Need-loop-less Inv-loop μ-loop
 loop-less c = omega arith
 
 loop-again : tie.Need-loop-again Inv-loop μ-loop
-loop-again c = (omega arith, omega arith)
+loop-again c =
+    let made = c .before .before .before .before in
+    let loop = made .before .before .before .before .before .before .before .before .before .before .before .before .loop in
+    (omega arith, omega arith, reached-more _ (loop .inv .2) (made .give .ensures .stands (not-false _ (c .before .if3 .left))))
 
 slice-aggregate-finish : tie.Need-slice-aggregate-finish Inv-loop μ-loop
 slice-aggregate-finish c = omega arith
