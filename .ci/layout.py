@@ -42,10 +42,10 @@ def faults_of_crates():
 
 
 def roots(functions, there):
-    """The files of antt that need no `mod` line: the two Lib, the proof of each function and of each cycle of calls (+even+odd), and the module of each."""
+    """The files of antt that need no `mod` line: the two Lib, the proof of each function or cycle of calls (+even+odd), and the modules above it."""
     found = {"specs/Lib", "proofs/Lib"}
     for path in functions:
-        found |= {f"proofs/{path}/Proof", f"proofs/{path.rpartition('/')[0] or 'Lib'}"}
+        found |= {f"proofs/{path}/Proof"} | {f"proofs/{path[:slash.start()]}" for slash in re.finditer("/", path)}
     for module, cycle in re.findall(r"^proofs/((?:\w+/)*)((?:\+\w+)+)/Proof\.antt$", "\n".join(there), re.M):
         if all(f"{module}{name}" in functions for name in cycle[1:].split("+")):
             found.add(f"proofs/{module}{cycle}/Proof")

@@ -15,10 +15,17 @@ CODE = re.compile(
       | (?P<open>/\*)
       | (?P<literal>(?:br|cr|r)(?P<raw>\#*)".*?"(?P=raw) | [bc]?"(?:[^"\\]|\\.)*" | b?'(?:\\(?:x..|u\{[^}]*\}|.)|[^'\\\n])')
       | (?P<word>'?\w+)
+      | (?P<mark>::|.)""",
+    re.X | re.S,
+)
+ANTT = re.compile(
+    r"""(?P<open>\{-)
+      | (?P<comment>--[^\n]*)
+      | (?P<text>"(?:[^"\\]|\\.)*")
+      | (?P<name>«[^»]*»|[^\s(){}.;,@"«»⟦]+)
       | (?P<mark>.)""",
     re.X | re.S,
 )
-ANTT = re.compile(r"""(?P<open>\{-) | (?P<comment>--[^\n]*) | (?P<text>"(?:[^"\\]|\\.)*") | (?P<name>«[^»]*»|[^\s(){}.;,@"«»⟦]+) | (?P<mark>.)""", re.X | re.S)
 CLAUSES = ("requires", "ensures", "ghost")
 CLOSING = {"(": ")", "[": "]", "{": "}"}
 
@@ -234,8 +241,9 @@ class Reader:
         if self.now().text == "{":
             return self.block([*path, name])
         self.found.modules.append("::".join([*path, name]))
-        self.until(";")
-        self.next()
+        if self.next().text != ";":
+            self.at -= 1
+            self.fail("`;` or a block is expected")
 
     def constant(self, path, start):
         self.next()
