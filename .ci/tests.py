@@ -5,11 +5,11 @@ import contextlib
 import io
 import os
 import shutil
-import stat
 import subprocess
 import sys
 import tempfile
 import unittest
+from concurrent.futures import ThreadPoolExecutor
 from unittest import mock
 
 import contracts
@@ -433,6 +433,60 @@ class Layout(Repository):
         for name in ("double/Proof/Lemmas", "+plain/Proof", "+double+plain/Proof", "more/S/get/Proof", "more"):
             self.write(f"crates/sums/proofs/{name}.antt", "")
         self.passes("layout")
+
+
+class Gate(unittest.TestCase):
+    """The script `run` itself, with other programs in the place of those that it calls. Each of its parts can be made to fail."""
+
+    SCRIPTS = ("layout", "contracts", "theorems", "tests", "refused")
+    PARTS = (*SCRIPTS, "fmt", "ci", "harness", "staticlib", "cc", "bill", "built", "examples", "statement", "compared")
+    PROGRAMS = {  # each ends by naming its part
+        "bin/python3": 'set "$(basename "$1" .py)"',
+        "bin/rt": '[ "$1" != ci ] || { echo "rt: kozempil proved (1 s)"; sleep 0.1; echo "rt: statement proved (1 s)"; echo "2 passed, 0 failed"; }',
+        "bin/cargo": 'case $PWD/$1 in */compare/run) set compared ;; */compare/*) set built ;; *) set harness ;; esac',
+        "bin/cc": 'for out; do :; done; cp made "$out"; set cc',
+        "made": "echo ok; set bill",
+        "statement": "echo ok; set statement",
+        ".ci/examples": "set examples",
+        ".ci/temporary": "echo /tmp; set temporary",
+    }
+
+    def setUp(self):
+        self.root = tempfile.mkdtemp()
+        self.addCleanup(shutil.rmtree, self.root)
+        for folder in ("bin", ".ci", "harness/compare", "examples"):
+            os.makedirs(f"{self.root}/{folder}")
+        shutil.copy(f"{HERE}/run", f"{self.root}/.ci/run")
+        for name, text in self.PROGRAMS.items():
+            self.program(name, f'#!/bin/sh\n{text}\n[ "$1" != "$FAILS" ]\n')
+        for name in ("paper.in", "paper.out", "bill.expected"):
+            self.program(f"examples/{name}", "ok\n")
+
+    def program(self, name, text):
+        with open(f"{self.root}/{name}", "w", encoding="utf-8") as file:
+            file.write(text)
+        os.chmod(f"{self.root}/{name}", 0o700)
+
+    def gate(self, fails):
+        """The status, the last line and all that the gate prints where one part fails."""
+        environment = {**os.environ, "PATH": f"{self.root}/bin:{os.environ['PATH']}", "FAILS": fails}
+        command = ["bash", f"{self.root}/.ci/run"]
+        done = subprocess.run(command, env=environment, stdin=subprocess.DEVNULL, capture_output=True, text=True, check=False, timeout=60)
+        return done.returncode, (done.stdout.splitlines() or [""])[-1], done.stdout + done.stderr
+
+    def test_the_verdict_is_the_last_line(self):
+        self.assertEqual(self.gate("")[:2], (0, "2 passed, 0 failed"))
+
+    def test_each_part_can_fail(self):
+        with ThreadPoolExecutor(len(self.PARTS)) as pool:
+            for part, (status, last, said) in zip(self.PARTS, pool.map(self.gate, self.PARTS)):
+                with self.subTest(part=part):
+                    self.assertNotEqual(status, 0, said)
+                    self.assertTrue(part == "ci" or last != "2 passed, 0 failed", said)
+
+    def test_a_crate_that_is_never_proved(self):
+        self.program("bin/rt", '#!/bin/sh\n[ "$1" != ci ] || echo "1 passed, 0 failed"\n')
+        self.assertEqual(self.gate("")[:2], (1, "library_and_program failed"))
 
 
 if __name__ == "__main__":

@@ -91,7 +91,8 @@ def faults_of_statement(file, name, statement):
 
 def supports(crate, file, name):
     """A theorem and the laws of its crate that its proof cites, and theirs: places and facts, as edits name them."""
-    files = {path[len(f"crates/{crate}/proofs/") : -len(".antt")]: File(path) for path in glob.glob(f"crates/{crate}/proofs/**/*.antt", recursive=True)}
+    folder = f"crates/{crate}/proofs/"
+    files = {path[len(folder) : -len(".antt")]: File(path) for path in glob.glob(f"{folder}**/*.antt", recursive=True)}
     prefix, found, left = f"Rattle.{crate}.proofs.", set(), [(file, name)]
     while left:
         one = left.pop()
@@ -137,7 +138,8 @@ def faults_of_readme(theorems):
     sentence = re.match(r"(?:`[^`]*`|[^`.])*", text[text.index(PARAGRAPH) :]).group()
     spans = [" ".join(span.split()) for span in re.findall(r"`([^`]*)`", sentence)]
     names = [{name, f"{name} : {statement}"} for _, _, name, statement in theorems]
-    faults = [f"README.md names {span}, which .ci/theorems.txt does not list" for span in spans if "/" not in span and span not in set().union(*names)]
+    others = [span for span in spans if "/" not in span and span not in set().union(*names)]
+    faults = [f"README.md names {span}, which .ci/theorems.txt does not list" for span in others]
     for (crate, path, name, _), either in zip(theorems, names):
         if not either & set(spans):
             faults.append(f"README.md does not name the theorem {name}")
