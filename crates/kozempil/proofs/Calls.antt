@@ -8,23 +8,22 @@ use lib.ListN.{length, getD}
 use borrow.Author.Tests.{ltb-true, eqb-true}
 use Rattle.calendar.proofs.Booleans.{and-both}
 use Rattle.account.specs.declared.Account.{Account}
+use Rattle.records.specs.Sections.{knownTerms}
 use Rattle.records.specs.Records.{recordLength, isCall}
 use Rattle.ledger.specs.declared.Answered.{Answered}
 use Rattle.balances.specs.Calls.{answerOf, accountAfter}
 use Rattle.ledger.specs.Encoding.{callOf, answeredOf}
-use Rattle.kozempil.specs.Interface.{isAccount, accountAt, isAnswered}
+use Rattle.kozempil.specs.Interface.{stagePlace, termsPlace, nextPlace, accountLength, isAccount, accountAt, isAnswered}
 
--- An account has 23 numbers, and its next month is one of 32 bits.
-pub account-numbers : (w : List ℕ) → isAccount w ≡ true → (length w ≡ 23) × (getD w 17 0 < 2 ^ 32)
+-- An account has its numbers, and its next month is one of 32 bits.
+pub account-numbers : (w : List ℕ) → isAccount w ≡ true → (length w ≡ accountLength) × (getD w nextPlace 0 < 2 ^ 32)
 unfolding isAccount
 account-numbers w e =
-    let size = eqb (length w) 23 in
-    let codes = leb (getD w 0 0) 2 in
-    let (rest, next) = and-both (size && codes && leb (getD w 1 0) 1 && leb (getD w 2 0) 1 && leb (getD w 5 0) 1) (ltb (getD w 17 0) (2 ^ 32)) e in
-    let (rest, _) = and-both (size && codes && leb (getD w 1 0) 1 && leb (getD w 2 0) 1) (leb (getD w 5 0) 1) rest in
-    let (rest, _) = and-both (size && codes && leb (getD w 1 0) 1) (leb (getD w 2 0) 1) rest in
-    let (rest, _) = and-both (size && codes) (leb (getD w 1 0) 1) rest in
-    let (long, _) = and-both size codes rest in
+    let size = eqb (length w) accountLength in
+    let stage = leb (getD w stagePlace 0) 2 in
+    let (rest, next) = and-both (size && stage && knownTerms w termsPlace) (ltb (getD w nextPlace 0) (2 ^ 32)) e in
+    let (rest, _) = and-both (size && stage) (knownTerms w termsPlace) rest in
+    let (long, _) = and-both size stage rest in
     (eqb-true _ _ long, ltb-true _ _ next)
 
 known-part : (b : Bool) (x y : Answered) → x .known ≡ true → y .known ≡ false → cond b x y .known ≡ b

@@ -6,18 +6,27 @@ ghost use lib.ListN.{length, getD};
 ghost use lib.Seq.{sets};
 ghost use Rattle.registers.specs.DayView.{viewOf};
 ghost use Rattle.account.specs.Account.{freshAccount};
-ghost use Rattle.records.specs.Records.{riderCode, classCode, yesCode};
 ghost use Rattle.records.specs.Rows.{rowOf};
 ghost use Rattle.balances.specs.Calls.{answerOf, accountAfter, answersOf, lastOf};
 ghost use Rattle.ledger.specs.Encoding.{callOf, callsIn, rowsOf};
-ghost use Rattle.kozempil.specs.Interface.{stageCode, accountRow, isAccount, stageAt, accountAt, isAnswered, partNumbers};
+ghost use Rattle.kozempil.specs.Interface.{stageCode, stageAt, nextPlace, accountLength, accountRow, isAccount, accountAt, isAnswered, partNumbers};
 use account::Account;
 use account::Stage;
-use tariff::Class;
-use tariff::Rider;
 
-// The numbers of an account.
-const ACCOUNT: usize = 23;
+// The row of an account: stage, terms, price list, next month, carried by period, standing money.
+const STAGE_PLACE: usize = 0;
+
+const TERMS_PLACE: usize = STAGE_PLACE + 1;
+
+const PRICES_PLACE: usize = TERMS_PLACE + records::TERMS_LENGTH;
+
+const NEXT_PLACE: usize = PRICES_PLACE + records::PRICES_LENGTH;
+
+const CARRIED_PLACE: usize = NEXT_PLACE + 1;
+
+const STANDING_PLACE: usize = CARRIED_PLACE + 4;
+
+const ACCOUNT: usize = STANDING_PLACE + 1;
 
 fn stage_code(stage: Stage) -> u64
     ensures { λ r. ⌜ r ≡ stageCode stage ⌝ }
@@ -29,67 +38,28 @@ fn stage_code(stage: Stage) -> u64
     }
 }
 
-fn rider_code(rider: Rider) -> u64
-    ensures { λ r. ⌜ r ≡ riderCode rider ⌝ }
+// Writes the row of an account.
+fn write_account(buffer: &mut [u64], account: Account)
+    ensures { λ r. ⌜ now (buffer .exit) ≡ sets (now (buffer .entry)) 0 (accountRow account) ⌝ }
 {
-    match rider {
-        Rider::Banked => 0,
-        Rider::Bridge => 1,
-    }
-}
-
-fn class_code(class: Class) -> u64
-    ensures { λ r. ⌜ r ≡ classCode class ⌝ }
-{
-    match class {
-        Class::Home => 0,
-        Class::Business => 1,
-    }
-}
-
-fn yes_code(yes: bool) -> u64
-    ensures { λ r. ⌜ r ≡ yesCode yes ⌝ }
-{
-    if yes { 1 } else { 0 }
-}
-
-// The numbers of an account.
-fn account_row(account: Account) -> [u64; 23]
-    ensures { λ r. ⌜ r ≡ accountRow account ⌝ }
-{
+    let stage = account.stage;
     let terms = account.terms;
     let prices = account.prices;
-    let energy = prices.energy;
     let carried = account.carried;
-    let stage = account.stage;
-    let rider = terms.rider;
-    let class = terms.class;
     let next = account.next as u64;
-    [
-        stage_code(stage),
-        rider_code(rider),
-        class_code(class),
-        terms.nameplate,
-        terms.limit,
-        yes_code(terms.assisted),
-        energy.critical,
-        energy.onpeak,
-        energy.offpeak,
-        energy.discount,
-        prices.demand,
-        prices.standby,
-        prices.bypass,
-        prices.credit,
-        prices.distribution,
-        prices.basic,
-        prices.minimum,
+    let first = [stage_code(stage)];
+    let rest = [
         next,
         carried.critical,
         carried.onpeak,
         carried.offpeak,
         carried.discount,
         account.standing,
-    ]
+    ];
+    records::write_numbers(buffer, STAGE_PLACE, &first[..]);
+    records::write_terms(buffer, TERMS_PLACE, terms);
+    records::write_prices(buffer, PRICES_PLACE, prices);
+    records::write_numbers(buffer, NEXT_PLACE, &rest[..]);
 }
 
 // Answers a list of calls from the fresh account.
@@ -105,8 +75,7 @@ pub extern "C" fn kozempil_run(
     ensures { λ r. ⌜ now (account .exit) ≡ sets (now (account .entry)) 0 (accountRow (lastOf freshAccount (callsIn (now (calls .entry)) (now (delivered .entry)) (now (received .entry))))) ⌝ }
 {
     let last = ledger::run(calls, delivered, received, answers);
-    let row = account_row(last);
-    records::write_numbers(account, 0, &row[..]);
+    write_account(account, last);
 }
 
 fn stage_at(code: u64) -> Stage
@@ -128,33 +97,27 @@ fn is_account(words: &[u64]) -> bool
     if words.len() != ACCOUNT {
         return false;
     }
-    if 2 < words[0] {
+    if 2 < words[STAGE_PLACE] {
         return false;
     }
-    if 1 < words[1] {
-        return false;
+    if records::known_terms(words, TERMS_PLACE) {
+        return words[NEXT_PLACE] < records::LIMIT_32;
     }
-    if 1 < words[2] {
-        return false;
-    }
-    if 1 < words[5] {
-        return false;
-    }
-    words[17] < records::LIMIT_32
+    false
 }
 
 // The account of its numbers.
 fn account_at(words: &[u64]) -> Account
-    requires { ⌜ length (now words) ≡ 23 ⌝ }
-    requires { ⌜ getD (now words) 17 0 < 2 ^ 32 ⌝ }
+    requires { ⌜ length (now words) ≡ accountLength ⌝ }
+    requires { ⌜ getD (now words) nextPlace 0 < 2 ^ 32 ⌝ }
     ensures { λ r. ⌜ r ≡ accountAt (now (words .entry)) ⌝ }
 {
-    let stage = stage_at(words[0]);
-    let terms = records::terms_at(words);
-    let prices = records::prices_at(words);
-    let next = words[17] as u32;
-    let carried = records::four_at(words, 18);
-    let standing = words[22];
+    let stage = stage_at(words[STAGE_PLACE]);
+    let terms = records::terms_at(words, TERMS_PLACE);
+    let prices = records::prices_at(words, PRICES_PLACE);
+    let next = words[NEXT_PLACE] as u32;
+    let carried = records::four_at(words, CARRIED_PLACE);
+    let standing = words[STANDING_PLACE];
     Account {
         stage,
         terms,
@@ -185,10 +148,9 @@ pub extern "C" fn kozempil_call(
         if answered.known {
             let last = answered.account;
             let reply = answered.answer;
-            let account_numbers = account_row(last);
-            let answer_numbers = records::row_of(reply);
-            records::write_numbers(answer, 0, &answer_numbers[..]);
-            records::write_numbers(after, 0, &account_numbers[..]);
+            let row = records::row_of(reply);
+            records::write_numbers(answer, 0, &row[..]);
+            write_account(after, last);
             return 1;
         }
     }

@@ -9,7 +9,7 @@ use borrow.Author.Tests.{leb-true, leb-false}
 use lib.Dec.{leb}
 use lib.ListN.{length, take, drop, drop-of-length-le, length-drop}
 use lib.Seq.{take-all, drop-drop, length-take-le}
-use Rattle.records.specs.Records.{recordLength, deliveredCount, receivedCount, isCall}
+use Rattle.records.specs.Records.{recordLength, deliveredPlace, receivedPlace, countAt, isCall}
 use Rattle.ledger.specs.Encoding.{callOf, decode}
 
 -- What is past the end adds nothing to a part, and leaves nothing behind it.
@@ -46,7 +46,7 @@ module _ (calls delivered received : List ℕ) (call taken given : ℕ) where
   decode-stop (suc n) h e = rw e
 
   pub decode-next : (n d r : ℕ) (w : List ℕ) → 0 < n → w ≡ take recordLength (drop call calls) → isCall w ≡ true
-      → d ≡ min (deliveredCount w) (length delivered - taken) → r ≡ min (receivedCount w) (length received - given)
+      → d ≡ min (countAt w deliveredPlace) (length delivered - taken) → r ≡ min (countAt w receivedPlace) (length received - given)
       → decode n (drop call calls) (drop taken delivered) (drop given received)
       ≡ callOf w (take d (drop taken delivered)) (take r (drop given received))
       ∷ decode (n - 1) (drop (call + recordLength) calls) (drop (taken + d) delivered) (drop (given + r) received)
@@ -58,14 +58,14 @@ module _ (calls delivered received : List ℕ) (call taken given : ℕ) where
         k,
         ← i,
         e,
-        part-is delivered taken (deliveredCount w) d f,
-        part-is received given (receivedCount w) r g,
-        rest-is delivered taken (deliveredCount w) d f,
-        rest-is received given (receivedCount w) r g,
+        part-is delivered taken (countAt w deliveredPlace) d f,
+        part-is received given (countAt w receivedPlace) r g,
+        rest-is delivered taken (countAt w deliveredPlace) d f,
+        rest-is received given (countAt w receivedPlace) r g,
         ← (drop-drop recordLength call calls),
       )
 
--- A record of the list has eighteen numbers.
+-- A record of the list has a record's length.
 pub record-is : (calls : List ℕ) (call : ℕ) → take (call + recordLength - call) (drop call calls) ≡ take recordLength (drop call calls)
 record-is calls call = let e : call + recordLength - call ≡ recordLength = omega arith in rw e
 

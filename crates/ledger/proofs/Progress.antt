@@ -12,8 +12,9 @@ use lib.ListN.{length, getD, take, drop, set}
 use lib.Seq.{sets}
 use Rattle.account.specs.declared.Account.{Account}
 use Rattle.account.specs.Account.{freshAccount}
-use Rattle.records.specs.Records.{recordLength, kindOf, deliveredCount, receivedCount, isCall}
+use Rattle.records.specs.Records.{recordLength, deliveredPlace, receivedPlace, countAt, isCall}
 use Rattle.records.specs.Rows.{rowLength, rowOf}
+use Rattle.records.proofs.Writing.{sets-append}
 use Rattle.ledger.specs.declared.Step.{Step}
 use Rattle.balances.specs.Calls.{Call, answerOf, accountAfter, answersOf, lastOf}
 use Rattle.ledger.specs.Encoding.{callOf, rowsOf, decode, callsIn, recordOf, deliveredOf, receivedOf, joined, AllFit}
@@ -23,11 +24,6 @@ use Rattle.balances.proofs.Balances.{balanced, starts-fresh}
 use Rattle.ledger.proofs.Decoding.{decode-none, decode-stop, decode-next, record-length}
 use Rattle.balances.proofs.Reachable.{reachable}
 use Rattle.ledger.proofs.Roundtrip.{read-back}
-
--- Two lists are written one after the other.
-sets-append : (buffer : List ℕ) (i : ℕ) (xs ys : List ℕ) → sets buffer i (xs ++ ys) ≡ sets (sets buffer i xs) (i + length xs) ys
-sets-append buffer i [] ys = rw add-zero
-sets-append buffer i (x ∷ xs) ys = sets-append (set buffer i x) (suc i) xs ys ∙ rw (add-suc, suc-add)
 
 -- The whole list, and what its answers leave in the buffer; the calls that are left, the account, the next row's place and the buffer now.
 pub record Progress (all : List Call) (before : List ℕ) (rest : List Call) (a : Account) (row : ℕ) (buffer : List ℕ) : Type 0 where
@@ -145,13 +141,12 @@ module _ (calls delivered received before answers : List ℕ) (a : Account) (lef
   pub advance : (d r : ℕ) (w : List ℕ) (s : Step) (xs after : List ℕ)
       → Running calls delivered received before answers a left call taken given row → 0 < left
       → w ≡ take recordLength (drop call calls) → isCall w ≡ true
-      → d ≡ min (cond (eqb (kindOf w) 2) (getD w 2 0) 0) (length delivered - taken)
-      → r ≡ min (cond (eqb (kindOf w) 2) (getD w 3 0) 0) (length received - given)
+      → d ≡ min (countAt w deliveredPlace) (length delivered - taken)
+      → r ≡ min (countAt w receivedPlace) (length received - given)
       → s ≡ stepOf a (callOf w (take (taken + d - taken) (drop taken delivered)) (take (given + r - given) (drop given received)))
       → xs ≡ rowOf (s .answer) → after ≡ sets answers row xs → length after ≡ length answers
       → Running calls delivered received before after
       (s .account) (left - 1) (call + recordLength) (taken + d) (given + r) (row + rowLength)
-  unfolding deliveredCount receivedCount
   advance d r w s xs after g h i k e f j o q l =
       let dd : taken + d - taken ≡ d = omega arith in
       let rr : given + r - given ≡ r = omega arith in

@@ -1,64 +1,92 @@
 -- A list of calls, lent by its records and registers, is read back as that list: each call by its own case.
-use mathlib.Core.Path.{_≡_, refl, sym, _∙_, ap}
+use mathlib.Core.Path.{_≡_, refl, _∙_}
 use mathlib.Core.Bool.{true}
-use mathlib.Core.List.{List, [], _∷_, _++_}
-use Prim.Native.Nat.{ℕ, zero, suc, _+_, _*_, _/_, _^_, _<_}
+use mathlib.Core.List.{List, [], _∷_, _++_, append-assoc}
+use Prim.Native.Nat.{ℕ, _+_, _-_, _*_, _/_, _^_, _≤_}
 use native.Mathlib.Omega.{arith}
 use borrow.Author.Tests.{lt-ltb}
-use lib.ListN.{length, take, drop, length-append}
-use lib.Seq.{take-append-seam, drop-append-seam}
-use Rattle.records.specs.Records.{recordLength, deliveredCount, receivedCount, openingCodes, billingCodes, isCall}
-use Rattle.records.proofs.Laws.{rider-known, rider-back, class-known, class-back, yes-known, yes-back}
+use lib.ListN.{length, getD, take, drop, replicate, length-append, length-replicate}
+use lib.Seq.{take-append-seam, drop-append-seam, take-at, drop-at, getD-at}
+use Rattle.tariff.specs.declared.Terms.{Terms}
+use Rattle.tariff.specs.declared.PriceList.{PriceList}
+use Rattle.records.specs.Sections.{termsLength, termsNumbers, termsAt, knownTerms, pricesNumbers, pricesAt}
+use Rattle.records.specs.Records.{openingKind, repricingKind, kindOf, countAt, openingCodes, billingCodes, isCall}
+use Rattle.records.specs.Records.{termsPlace, pricesPlace, firstMonthPlace, deliveredPlace, receivedPlace, recordLength}
+use Rattle.records.proofs.Sections.{terms-long, terms-back, terms-known, prices-long, prices-back}
 use Rattle.balances.specs.Calls.{Call, opening, repricing, billing, closing}
-use Rattle.ledger.specs.Encoding.{callOf, decode, callsIn, recordOf, deliveredOf, receivedOf, joined, Fits32, AllFit}
+use Rattle.ledger.specs.Encoding.{callOf, decode, callsIn, withZeros, recordOf, deliveredOf, receivedOf, joined, Fits32, AllFit}
+
+-- What an opening's record has after its kind.
+module _ (t : Terms) (l : PriceList) (m : ℕ) where
+  opening-known : knownTerms (recordOf (opening t l m)) termsPlace ≡ true
+  unfolding recordOf
+  opening-known =
+      rw (append-assoc (openingKind ∷ termsNumbers t) (pricesNumbers l) (m ∷ []))
+      (terms-known (openingKind ∷ []) termsPlace refl t (pricesNumbers l ++ m ∷ []))
+
+  opening-terms : termsAt (recordOf (opening t l m)) termsPlace ≡ t
+  unfolding recordOf
+  opening-terms =
+      rw (append-assoc (openingKind ∷ termsNumbers t) (pricesNumbers l) (m ∷ []))
+      (terms-back (openingKind ∷ []) termsPlace refl t (pricesNumbers l ++ m ∷ []))
+
+  opening-prices : pricesAt (recordOf (opening t l m)) pricesPlace ≡ l
+  unfolding recordOf
+  opening-prices = prices-back (openingKind ∷ termsNumbers t) pricesPlace (omega (arith, terms-long t)) l (m ∷ [])
+
+  before-month : length (openingKind ∷ termsNumbers t ++ pricesNumbers l) ≡ firstMonthPlace
+  before-month = rw length-append (omega (arith, terms-long t, prices-long l))
+
+  opening-month : getD (recordOf (opening t l m)) firstMonthPlace 0 ≡ m
+  unfolding recordOf
+  opening-month = getD-at (openingKind ∷ termsNumbers t ++ pricesNumbers l) m [] 0 firstMonthPlace before-month
+
+repricing-prices : (l : PriceList) → pricesAt (recordOf (repricing l)) pricesPlace ≡ l
+unfolding recordOf withZeros
+repricing-prices l = prices-back (repricingKind ∷ replicate termsLength 0) pricesPlace refl l _
 
 -- The record of a call is a call, and with the call's registers that call.
 known : (c : Call) → Fits32 c → isCall (recordOf c) ≡ true
-unfolding isCall openingCodes billingCodes
-known (opening t l m) h = rw (rider-known (t .rider), class-known (t .class), yes-known (t .assisted), lt-ltb m (2 ^ 32) h)
+unfolding recordOf withZeros isCall openingCodes billingCodes
+known (opening t l m) h = rw (opening-known t l m, opening-month t l m, lt-ltb m (2 ^ 32) h)
 known (repricing l) h = refl
 known (billing m delivered received x) h = rw (lt-ltb m (2 ^ 32) (h .0), lt-ltb x (2 ^ 32) (h .1))
 known closing h = refl
 
 back : (c : Call) → callOf (recordOf c) (deliveredOf c) (receivedOf c) ≡ c
-unfolding callOf
-back (opening t l m) = rw (rider-back (t .rider), class-back (t .class), yes-back (t .assisted))
-back (repricing l) = refl
+unfolding recordOf withZeros callOf
+back (opening t l m) = rw (opening-terms t l m, opening-prices t l m, opening-month t l m)
+back (repricing l) = rw (repricing-prices l)
 back (billing m delivered received x) = refl
 back closing = refl
 
 -- It takes its own registers from the front of what is lent.
-delivered-count : (c : Call) → deliveredCount (recordOf c) ≡ length (deliveredOf c)
-unfolding deliveredCount
+delivered-count : (c : Call) → countAt (recordOf c) deliveredPlace ≡ length (deliveredOf c)
+unfolding recordOf withZeros countAt
 delivered-count (opening t l m) = refl
 delivered-count (repricing l) = refl
 delivered-count (billing m delivered received x) = refl
 delivered-count closing = refl
 
-received-count : (c : Call) → receivedCount (recordOf c) ≡ length (receivedOf c)
-unfolding receivedCount
+received-count : (c : Call) → countAt (recordOf c) receivedPlace ≡ length (receivedOf c)
+unfolding recordOf withZeros countAt
 received-count (opening t l m) = refl
 received-count (repricing l) = refl
 received-count (billing m delivered received x) = refl
 received-count closing = refl
 
-take-record : (c : Call) (rest : List ℕ) → take recordLength (recordOf c ++ rest) ≡ recordOf c
-take-record (opening t l m) rest = refl
-take-record (repricing l) rest = refl
-take-record (billing m delivered received x) rest = refl
-take-record closing rest = refl
-
-drop-record : (c : Call) (rest : List ℕ) → drop recordLength (recordOf c ++ rest) ≡ rest
-drop-record (opening t l m) rest = refl
-drop-record (repricing l) rest = refl
-drop-record (billing m delivered received x) rest = refl
-drop-record closing rest = refl
+-- It has a record's length.
+zeros-size : (xs : List ℕ) → length xs ≤ recordLength → length (withZeros xs) ≡ recordLength
+unfolding withZeros
+zeros-size xs h = rw (length-append, length-replicate) (omega arith)
 
 record-size : (c : Call) → length (recordOf c) ≡ recordLength
-record-size (opening t l m) = refl
-record-size (repricing l) = refl
-record-size (billing m delivered received x) = refl
-record-size closing = refl
+unfolding recordOf
+record-size (opening t l m) = rw length-append (omega (arith, before-month t l m))
+record-size (repricing l) =
+    zeros-size (repricingKind ∷ replicate termsLength 0 ++ pricesNumbers l) (rw length-append (omega (arith, prices-long l)))
+record-size (billing m delivered received x) = zeros-size _ (omega arith)
+record-size closing = zeros-size _ (omega arith)
 
 size : (cs : List Call) → length (joined recordOf cs) ≡ recordLength * length cs
 unfolding joined
@@ -70,8 +98,8 @@ unfolding decode joined AllFit
 decoded [] h = refl
 decoded (c ∷ cs) h =
     rw (
-      take-record c (joined recordOf cs),
-      drop-record c (joined recordOf cs),
+      take-at (recordOf c) (joined recordOf cs) recordLength (record-size c),
+      drop-at (recordOf c) (joined recordOf cs) recordLength (record-size c),
       known c (h .0),
       delivered-count c,
       received-count c,

@@ -3,15 +3,16 @@
 use mathlib.Core.Path.{_≡_}
 use mathlib.Core.Bool.{true, false, cond, _&&_}
 use mathlib.Core.List.{List, [], _∷_, _++_}
-use Prim.Native.Nat.{ℕ, zero, suc, _/_, _^_, _<_}
+use Prim.Native.Nat.{ℕ, zero, suc, _-_, _/_, _^_, _<_}
 use lib.Dec.{eqb}
-use lib.ListN.{length, getD, take, drop}
+use lib.ListN.{length, getD, take, drop, replicate}
 use Rattle.billing.specs.Billing.{noBill}
 use Rattle.account.specs.declared.Account.{Account}
 use Rattle.account.specs.Account.{noAmounts}
 use Rattle.records.specs.declared.Answer.{Answer}
-use Rattle.records.specs.Records.{recordLength, kindOf, riderCode, classCode, yesCode, termsAt, pricesAt}
-use Rattle.records.specs.Records.{deliveredCount, receivedCount, isCall}
+use Rattle.records.specs.Sections.{termsLength, termsNumbers, termsAt, pricesNumbers, pricesAt}
+use Rattle.records.specs.Records.{openingKind, repricingKind, billingKind, closingKind, kindOf, countAt, isCall}
+use Rattle.records.specs.Records.{termsPlace, pricesPlace, firstMonthPlace, monthPlace, deliveredPlace, receivedPlace, criticalPlace, recordLength}
 use Rattle.records.specs.Rows.{rowOf}
 use Rattle.ledger.specs.declared.Answered.{Answered}
 use Rattle.balances.specs.Calls.{Call, opening, repricing, billing, closing, answerOf, accountAfter}
@@ -19,9 +20,9 @@ use Rattle.balances.specs.Calls.{Call, opening, repricing, billing, closing, an
 -- The call of a record, with the readings of a billing.
 unfoldable pub callOf : List ℕ → List ℕ → List ℕ → Call
 callOf w delivered received =
-    cond (eqb (kindOf w) 0) (opening (termsAt w) (pricesAt w) (getD w 17 0))
-    (cond (eqb (kindOf w) 1) (repricing (pricesAt w))
-    (cond (eqb (kindOf w) 2) (billing (getD w 1 0) delivered received (getD w 4 0)) closing))
+    cond (eqb (kindOf w) openingKind) (opening (termsAt w termsPlace) (pricesAt w pricesPlace) (getD w firstMonthPlace 0))
+    (cond (eqb (kindOf w) repricingKind) (repricing (pricesAt w pricesPlace))
+    (cond (eqb (kindOf w) billingKind) (billing (getD w monthPlace 0) delivered received (getD w criticalPlace 0)) closing))
 
 -- At most n records from the front of ws. A billing takes its readings from the front of the registers, or what is left of them. The list
 -- ends at the first record that is no call.
@@ -31,32 +32,29 @@ decode (suc n) ws delivered received =
     cond (isCall (take recordLength ws))
     (callOf
     (take recordLength ws)
-    (take (deliveredCount (take recordLength ws)) delivered)
-    (take (receivedCount (take recordLength ws)) received)
+    (take (countAt (take recordLength ws) deliveredPlace) delivered)
+    (take (countAt (take recordLength ws) receivedPlace) received)
     ∷ decode
     n
     (drop recordLength ws)
-    (drop (deliveredCount (take recordLength ws)) delivered)
-    (drop (receivedCount (take recordLength ws)) received))
+    (drop (countAt (take recordLength ws) deliveredPlace) delivered)
+    (drop (countAt (take recordLength ws) receivedPlace) received))
     []
 
 -- The calls that are lent: one for each record.
 unfoldable pub callsIn : List ℕ → List ℕ → List ℕ → List Call
 callsIn ws delivered received = decode (length ws / recordLength) ws delivered received
 
+-- A record's first numbers, and 0 in the rest.
+unfoldable pub withZeros : List ℕ → List ℕ
+withZeros xs = xs ++ replicate (recordLength - length xs) 0
+
 -- The record of a call; places that it doesn't use are 0.
-abbrev pub recordOf : Call → List ℕ
-recordOf (opening t l m) =
-    0 ∷ riderCode (t .rider) ∷ classCode (t .class) ∷ t .nameplate ∷ t .limit ∷ yesCode (t .assisted)
-    ∷ l .energy .critical ∷ l .energy .onpeak ∷ l .energy .offpeak ∷ l .energy .discount
-    ∷ l .demand ∷ l .standby ∷ l .bypass ∷ l .credit ∷ l .distribution ∷ l .basic ∷ l .minimum ∷ m ∷ []
-recordOf (repricing l) =
-    1 ∷ 0 ∷ 0 ∷ 0 ∷ 0 ∷ 0
-    ∷ l .energy .critical ∷ l .energy .onpeak ∷ l .energy .offpeak ∷ l .energy .discount
-    ∷ l .demand ∷ l .standby ∷ l .bypass ∷ l .credit ∷ l .distribution ∷ l .basic ∷ l .minimum ∷ 0 ∷ []
-recordOf (billing m delivered received x) =
-    2 ∷ m ∷ length delivered ∷ length received ∷ x ∷ 0 ∷ 0 ∷ 0 ∷ 0 ∷ 0 ∷ 0 ∷ 0 ∷ 0 ∷ 0 ∷ 0 ∷ 0 ∷ 0 ∷ 0 ∷ []
-recordOf closing = 3 ∷ 0 ∷ 0 ∷ 0 ∷ 0 ∷ 0 ∷ 0 ∷ 0 ∷ 0 ∷ 0 ∷ 0 ∷ 0 ∷ 0 ∷ 0 ∷ 0 ∷ 0 ∷ 0 ∷ 0 ∷ []
+unfoldable pub recordOf : Call → List ℕ
+recordOf (opening t l m) = openingKind ∷ termsNumbers t ++ pricesNumbers l ++ m ∷ []
+recordOf (repricing l) = withZeros (repricingKind ∷ replicate termsLength 0 ++ pricesNumbers l)
+recordOf (billing m delivered received x) = withZeros (billingKind ∷ m ∷ length delivered ∷ length received ∷ x ∷ [])
+recordOf closing = withZeros (closingKind ∷ [])
 
 -- The registers of a call.
 abbrev pub deliveredOf : Call → List ℕ

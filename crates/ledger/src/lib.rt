@@ -109,18 +109,21 @@ fn answer_call(account: Account, call: &[u64], delivered: &[u32], received: &[u3
     requires { ⌜ isCall (now call) ≡ true ⌝ }
     ensures { λ r. ⌜ r ≡ stepOf account (callOf (now (call .entry)) (now (delivered .entry)) (now (received .entry))) ⌝ }
 {
-    let kind = call[0];
+    let kind = call[records::KIND_PLACE];
     if kind == records::OPENING {
-        let terms = records::terms_at(call);
-        let prices = records::prices_at(call);
-        return answer_opening(account, terms, prices, call[17] as u32);
+        let terms = records::terms_at(call, records::TERMS_PLACE);
+        let prices = records::prices_at(call, records::PRICES_PLACE);
+        let month = call[records::FIRST_MONTH_PLACE] as u32;
+        return answer_opening(account, terms, prices, month);
     }
     if kind == records::REPRICING {
-        let prices = records::prices_at(call);
+        let prices = records::prices_at(call, records::PRICES_PLACE);
         return answer_repricing(account, prices);
     }
     if kind == records::BILLING {
-        return answer_billing(account, call[1] as u32, delivered, received, call[4] as u32);
+        let month = call[records::MONTH_PLACE] as u32;
+        let critical_days = call[records::CRITICAL_PLACE] as u32;
+        return answer_billing(account, month, delivered, received, critical_days);
     }
     answer_closing(account)
 }
@@ -177,8 +180,10 @@ pub fn run(calls: &[u64], delivered: &[u32], received: &[u32], answers: &mut [u6
         if !records::is_call(record) {
             return account;
         }
-        let taken_end = taken + records::readings_taken(record, 2, delivered.len() - taken);
-        let given_end = given + records::readings_taken(record, 3, received.len() - given);
+        let taken_end = taken
+            + records::readings_taken(record, records::DELIVERED_PLACE, delivered.len() - taken);
+        let given_end = given
+            + records::readings_taken(record, records::RECEIVED_PLACE, received.len() - given);
         let step = answer_call(
             account,
             record,

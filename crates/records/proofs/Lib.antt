@@ -1,2 +1,3 @@
 pub mod Laws
-mod Writing
+pub mod Sections
+pub mod Writing

@@ -1,8 +1,8 @@
 -- Numbers written one after the other.
-use mathlib.Core.Path.{_≡_, refl}
-use mathlib.Core.List.{List, [], _∷_}
+use mathlib.Core.Path.{_≡_, refl, _∙_}
+use mathlib.Core.List.{List, [], _∷_, _++_}
 use Prim.Native.Nat.{ℕ, suc, _+_, _≤_, _<_}
-use native.Mathlib.Nat.{add-suc}
+use native.Mathlib.Nat.{add-zero, add-suc, suc-add}
 use native.Mathlib.Numerals.{add-one}
 use native.Mathlib.Omega.{arith}
 use lib.ListN.{length, getD, drop, set, drop-of-length-le}
@@ -21,3 +21,8 @@ all-put buffer row i k h = rw (drop-of-length-le row h)
 pub sets-out : (buffer : List ℕ) (i : ℕ) (xs : List ℕ) → length buffer ≤ i → sets buffer i xs ≡ buffer
 sets-out buffer i [] h = refl
 sets-out buffer i (x ∷ xs) h = rw (set-out buffer i x h) (sets-out buffer (suc i) xs (omega arith))
+
+-- Two lists are written one after the other.
+pub sets-append : (buffer : List ℕ) (i : ℕ) (xs ys : List ℕ) → sets buffer i (xs ++ ys) ≡ sets (sets buffer i xs) (i + length xs) ys
+sets-append buffer i [] ys = rw add-zero
+sets-append buffer i (x ∷ xs) ys = sets-append (set buffer i x) (suc i) xs ys ∙ rw (add-suc, suc-add)

@@ -1,13 +1,12 @@
-// What a call's record of eighteen numbers says, and the sixty numbers of an answer's row.
+// What a call's record says, and the numbers of an answer's row. A section of a record or row, as terms or a price list, is read and
+// written from any place on.
 ghost use mathlib.Core.Path.{_≡_};
-ghost use mathlib.Core.Bool.{cond};
-ghost use Prim.Native.Nat.{min};
-ghost use lib.Dec.{eqb};
+ghost use Prim.Native.Nat.{_+_, min};
 ghost use lib.ListN.{getD, set};
 ghost use lib.Seq.{sets};
-ghost use Rattle.tariff.specs.declared.Rider.the-variants.{Banked, Bridge};
-ghost use Rattle.tariff.specs.declared.Class.the-variants.{Home, Business};
-ghost use Rattle.records.specs.Records.{kindOf, termsAt, fourAt, pricesAt, openingCodes, billingCodes, isCall};
+ghost use Rattle.records.specs.Sections.{riderCode, riderAt, classCode, classAt, yesCode, fourAt};
+ghost use Rattle.records.specs.Sections.{termsNumbers, termsAt, knownTerms, pricesNumbers, pricesAt};
+ghost use Rattle.records.specs.Records.{countAt, openingCodes, billingCodes, isCall};
 ghost use Rattle.records.specs.Rows.{rowOf};
 use account::ClosingAmounts;
 use billing::Bill;
@@ -17,10 +16,30 @@ use tariff::PriceList;
 use tariff::Rider;
 use tariff::Terms;
 
-// The numbers of a call's record and of an answer's row.
-pub const RECORD: usize = 18;
+// The numbers of terms and of a price list.
+pub const TERMS_LENGTH: usize = 5;
 
-pub const ROW: usize = 60;
+pub const PRICES_LENGTH: usize = 11;
+
+// The record of a call: its kind; of an opening terms, price list and first month, of a repricing the price list at the same place.
+pub const KIND_PLACE: usize = 0;
+
+pub const TERMS_PLACE: usize = KIND_PLACE + 1;
+
+pub const PRICES_PLACE: usize = TERMS_PLACE + TERMS_LENGTH;
+
+pub const FIRST_MONTH_PLACE: usize = PRICES_PLACE + PRICES_LENGTH;
+
+pub const RECORD: usize = FIRST_MONTH_PLACE + 1;
+
+// Of a billing the month, the number of its delivered and of its received readings, and the critical days.
+pub const MONTH_PLACE: usize = KIND_PLACE + 1;
+
+pub const DELIVERED_PLACE: usize = MONTH_PLACE + 1;
+
+pub const RECEIVED_PLACE: usize = DELIVERED_PLACE + 1;
+
+pub const CRITICAL_PLACE: usize = RECEIVED_PLACE + 1;
 
 // The kinds of calls.
 pub const OPENING: u64 = 0;
@@ -30,6 +49,11 @@ pub const REPRICING: u64 = 1;
 pub const BILLING: u64 = 2;
 
 pub const CLOSING: u64 = 3;
+
+// The numbers of an answer's row: its number, eleven amounts by period, the money lines, an amount by period and a sum of money.
+const LINES_LENGTH: usize = 10;
+
+pub const ROW: usize = 1 + 11 * 4 + LINES_LENGTH + 4 + 1;
 
 // The first number of more than 32 bits.
 pub const LIMIT_32: u64 = 0x1_0000_0000;
@@ -42,7 +66,7 @@ pub struct Answer {
 }
 
 fn rider_at(code: u64) -> Rider
-    ensures { λ r. ⌜ r ≡ cond (eqb code 0) Banked Bridge ⌝ }
+    ensures { λ r. ⌜ r ≡ riderAt code ⌝ }
 {
     if code == 0 {
         Rider::Banked
@@ -52,7 +76,7 @@ fn rider_at(code: u64) -> Rider
 }
 
 fn class_at(code: u64) -> Class
-    ensures { λ r. ⌜ r ≡ cond (eqb code 0) Home Business ⌝ }
+    ensures { λ r. ⌜ r ≡ classAt code ⌝ }
 {
     if code == 0 {
         Class::Home
@@ -71,15 +95,27 @@ pub fn number_at(words: &[u64], place: usize) -> u64
     0
 }
 
-// The terms of an opening.
-pub fn terms_at(words: &[u64]) -> Terms
-    ensures { λ r. ⌜ r ≡ termsAt (now (words .entry)) ⌝ }
+// The number at a place counted from another one, or 0 past the end.
+pub fn number_from(words: &[u64], start: usize, place: usize) -> u64
+    ensures { λ r. ⌜ r ≡ getD (now (words .entry)) (start + place) 0 ⌝ }
 {
-    let rider = rider_at(number_at(words, 1));
-    let class = class_at(number_at(words, 2));
-    let nameplate = number_at(words, 3);
-    let limit = number_at(words, 4);
-    let assisted = number_at(words, 5) == 1;
+    if start < words.len() {
+        if place < words.len() - start {
+            return words[start + place];
+        }
+    }
+    0
+}
+
+// The terms that start at a place.
+pub fn terms_at(words: &[u64], place: usize) -> Terms
+    ensures { λ r. ⌜ r ≡ termsAt (now (words .entry)) place ⌝ }
+{
+    let rider = rider_at(number_at(words, place));
+    let class = class_at(number_from(words, place, 1));
+    let nameplate = number_from(words, place, 2);
+    let limit = number_from(words, place, 3);
+    let assisted = number_from(words, place, 4) == 1;
     Terms {
         rider,
         class,
@@ -89,17 +125,27 @@ pub fn terms_at(words: &[u64]) -> Terms
     }
 }
 
-// Four amounts at places that follow one another.
+// Whether the codes of terms that start at a place are known.
+pub fn known_terms(words: &[u64], place: usize) -> bool
+    ensures { λ r. ⌜ r ≡ knownTerms (now (words .entry)) place ⌝ }
+{
+    if 1 < number_at(words, place) {
+        return false;
+    }
+    if 1 < number_from(words, place, 1) {
+        return false;
+    }
+    number_from(words, place, 4) <= 1
+}
+
+// Four amounts that start at a place.
 pub fn four_at(words: &[u64], place: usize) -> ByPeriod
     ensures { λ r. ⌜ r ≡ fourAt (now (words .entry)) place ⌝ }
 {
-    if words.len() <= place {
-        return billing::no_energy();
-    }
     let critical = number_at(words, place);
-    let onpeak = number_at(words, place + 1);
-    let offpeak = number_at(words, place + 2);
-    let discount = number_at(words, place + 3);
+    let onpeak = number_from(words, place, 1);
+    let offpeak = number_from(words, place, 2);
+    let discount = number_from(words, place, 3);
     ByPeriod {
         critical,
         onpeak,
@@ -108,18 +154,18 @@ pub fn four_at(words: &[u64], place: usize) -> ByPeriod
     }
 }
 
-// The price list of an opening or a repricing.
-pub fn prices_at(words: &[u64]) -> PriceList
-    ensures { λ r. ⌜ r ≡ pricesAt (now (words .entry)) ⌝ }
+// The price list that starts at a place.
+pub fn prices_at(words: &[u64], place: usize) -> PriceList
+    ensures { λ r. ⌜ r ≡ pricesAt (now (words .entry)) place ⌝ }
 {
-    let energy = four_at(words, 6);
-    let demand = number_at(words, 10);
-    let standby = number_at(words, 11);
-    let bypass = number_at(words, 12);
-    let credit = number_at(words, 13);
-    let distribution = number_at(words, 14);
-    let basic = number_at(words, 15);
-    let minimum = number_at(words, 16);
+    let energy = four_at(words, place);
+    let demand = number_from(words, place, 4);
+    let standby = number_from(words, place, 5);
+    let bypass = number_from(words, place, 6);
+    let credit = number_from(words, place, 7);
+    let distribution = number_from(words, place, 8);
+    let basic = number_from(words, place, 9);
+    let minimum = number_from(words, place, 10);
     PriceList {
         energy,
         demand,
@@ -136,24 +182,18 @@ pub fn prices_at(words: &[u64]) -> PriceList
 fn is_opening(call: &[u64]) -> bool
     ensures { λ r. ⌜ r ≡ openingCodes (now (call .entry)) ⌝ }
 {
-    if 1 < number_at(call, 1) {
-        return false;
+    if known_terms(call, TERMS_PLACE) {
+        return number_at(call, FIRST_MONTH_PLACE) < LIMIT_32;
     }
-    if 1 < number_at(call, 2) {
-        return false;
-    }
-    if 1 < number_at(call, 5) {
-        return false;
-    }
-    number_at(call, 17) < LIMIT_32
+    false
 }
 
 // Whether a billing's record has a month and critical days of 32 bits.
 fn is_billing(call: &[u64]) -> bool
     ensures { λ r. ⌜ r ≡ billingCodes (now (call .entry)) ⌝ }
 {
-    if number_at(call, 1) < LIMIT_32 {
-        return number_at(call, 4) < LIMIT_32;
+    if number_at(call, MONTH_PLACE) < LIMIT_32 {
+        return number_at(call, CRITICAL_PLACE) < LIMIT_32;
     }
     false
 }
@@ -162,7 +202,7 @@ fn is_billing(call: &[u64]) -> bool
 pub fn is_call(call: &[u64]) -> bool
     ensures { λ r. ⌜ r ≡ isCall (now (call .entry)) ⌝ }
 {
-    let kind = number_at(call, 0);
+    let kind = number_at(call, KIND_PLACE);
     if kind == OPENING {
         return is_opening(call);
     }
@@ -172,11 +212,11 @@ pub fn is_call(call: &[u64]) -> bool
     kind <= CLOSING
 }
 
-// How many readings a call takes from a register that has some left: those at a place of a billing's record.
+// How many readings a call takes from a register that has some left: a billing those that the number at a place says.
 pub fn readings_taken(call: &[u64], place: usize, left: usize) -> usize
-    ensures { λ r. ⌜ r ≡ min (cond (eqb (kindOf (now (call .entry))) 2) (getD (now (call .entry)) place 0) 0) left ⌝ }
+    ensures { λ r. ⌜ r ≡ min (countAt (now (call .entry)) place) left ⌝ }
 {
-    if number_at(call, 0) != BILLING {
+    if number_at(call, KIND_PLACE) != BILLING {
         return 0;
     }
     let count = number_at(call, place);
@@ -279,4 +319,65 @@ pub fn write_numbers(buffer: &mut [u64], start: usize, numbers: &[u64])
         put(buffer, start + place, numbers[place]);
         place += 1;
     }
+}
+
+fn rider_code(rider: Rider) -> u64
+    ensures { λ r. ⌜ r ≡ riderCode rider ⌝ }
+{
+    match rider {
+        Rider::Banked => 0,
+        Rider::Bridge => 1,
+    }
+}
+
+fn class_code(class: Class) -> u64
+    ensures { λ r. ⌜ r ≡ classCode class ⌝ }
+{
+    match class {
+        Class::Home => 0,
+        Class::Business => 1,
+    }
+}
+
+fn yes_code(yes: bool) -> u64
+    ensures { λ r. ⌜ r ≡ yesCode yes ⌝ }
+{
+    if yes { 1 } else { 0 }
+}
+
+// Writes terms from a place on; what doesn't fit is left out.
+pub fn write_terms(buffer: &mut [u64], place: usize, terms: Terms)
+    ensures { λ r. ⌜ now (buffer .exit) ≡ sets (now (buffer .entry)) place (termsNumbers terms) ⌝ }
+{
+    let rider = terms.rider;
+    let class = terms.class;
+    let numbers = [
+        rider_code(rider),
+        class_code(class),
+        terms.nameplate,
+        terms.limit,
+        yes_code(terms.assisted),
+    ];
+    write_numbers(buffer, place, &numbers[..]);
+}
+
+// Writes a price list from a place on; what doesn't fit is left out.
+pub fn write_prices(buffer: &mut [u64], place: usize, prices: PriceList)
+    ensures { λ r. ⌜ now (buffer .exit) ≡ sets (now (buffer .entry)) place (pricesNumbers prices) ⌝ }
+{
+    let energy = prices.energy;
+    let numbers = [
+        energy.critical,
+        energy.onpeak,
+        energy.offpeak,
+        energy.discount,
+        prices.demand,
+        prices.standby,
+        prices.bypass,
+        prices.credit,
+        prices.distribution,
+        prices.basic,
+        prices.minimum,
+    ];
+    write_numbers(buffer, place, &numbers[..]);
 }

@@ -16,33 +16,25 @@ returns-2 : tie.Need-returns-2
 unfolding isAccount
 returns-2 c = simp (eq-eqb _ _ (c .before .before .if1 .left), lt-leb _ _ (c .if2 .taken))
 
-shared-slice-read-if3 : tie.Need-shared-slice-read-if3
-shared-slice-read-if3 c = search needs
-
-returns-3 : tie.Need-returns-3
-unfolding isAccount
-returns-3 c = simp (eq-eqb _ _ (c .before .before .before .before .if1 .left), le-leb _ _ (c .before .before .if2 .left), lt-leb _ _ (c .if3 .taken))
-
-shared-slice-read-if4 : tie.Need-shared-slice-read-if4
-shared-slice-read-if4 c = search needs
-
-returns-4 : tie.Need-returns-4
-unfolding isAccount
-returns-4 c = simp (eq-eqb _ _ (c .before .before .before .before .before .before .if1 .left), le-leb _ _ (c .before .before .before .before .if2 .left), le-leb _ _ (c .before .before .if3 .left), lt-leb _ _ (c .if4 .taken))
-
-shared-slice-read-if5 : tie.Need-shared-slice-read-if5
-shared-slice-read-if5 c = search needs
-
-returns-5 : tie.Need-returns-5
-unfolding isAccount
-returns-5 c = simp (eq-eqb _ _ (c .before .before .before .before .before .before .before .before .if1 .left), le-leb _ _ (c .before .before .before .before .before .before .if2 .left), le-leb _ _ (c .before .before .before .before .if3 .left), le-leb _ _ (c .before .before .if4 .left), lt-leb _ _ (c .if5 .taken))
+known-terms-requires : tie.Need-known-terms-requires
+known-terms-requires c κs = tt
 
 shared-slice-read-result : tie.Need-shared-slice-read-result
 shared-slice-read-result c = search needs
 
-returns-6 : tie.Need-returns-6
+returns-3 : tie.Need-returns-3
 unfolding isAccount
-returns-6 c = simp (eq-eqb _ _ (c .before .before .before .before .before .before .before .before .before .if1 .left), le-leb _ _ (c .before .before .before .before .before .before .before .if2 .left), le-leb _ _ (c .before .before .before .before .before .if3 .left), le-leb _ _ (c .before .before .before .if4 .left), le-leb _ _ (c .before .if5 .left))
+returns-3 c =
+    let known = c .before .before in
+    let two = known .before in
+    simp (eq-eqb _ _ (two .before .before .if1 .left), le-leb _ _ (two .if2 .left), ← (known .known-terms .ensures), c .before .if3 .taken)
+
+returns-4 : tie.Need-returns-4
+unfolding isAccount
+returns-4 c =
+    let known = c .before in
+    let two = known .before in
+    simp (eq-eqb _ _ (two .before .before .if1 .left), le-leb _ _ (two .if2 .left), ← (known .known-terms .ensures), c .if3 .left)
 
 pub is-account-spec : {M : Type 1} → statement M
 is-account-spec =
@@ -51,11 +43,7 @@ is-account-spec =
     returns
     shared-slice-read-if2
     returns-2
-    shared-slice-read-if3
-    returns-3
-    shared-slice-read-if4
-    returns-4
-    shared-slice-read-if5
-    returns-5
+    known-terms-requires
     shared-slice-read-result
-    returns-6)
+    returns-3
+    returns-4)

@@ -2,7 +2,6 @@
 use mathlib.Core.Path.{sym, ap, _∙_}
 use lib.Seq.{sets}
 use Rattle.records.specs.Rows.{rowOf}
-use Rattle.kozempil.specs.Interface.{accountRow}
 use Rattle.kozempil.proofs.Calls.{account-numbers, answered, not-answered, answer-is, account-is, no-account}
 use Rattle.kozempil.proofs.kozempil_call.Statement.{statement}
 use Rattle.kozempil.proofs.kozempil_call.Tie as tie
@@ -16,9 +15,6 @@ account-at-requires c κs = account-numbers _ (sym (c .before .is-account .ensur
 answer-record-requires : tie.Need-answer-record-requires
 answer-record-requires c κs = tt
 
-account-row-requires : tie.Need-account-row-requires
-account-row-requires c κs = tt
-
 row-of-requires : tie.Need-row-of-requires
 row-of-requires c κs = tt
 
@@ -28,29 +24,28 @@ slice-aggregate-write-numbers c = rw (c .before .before .row-of .ensures)
 write-numbers-requires : tie.Need-write-numbers-requires
 write-numbers-requires c κs = tt
 
-slice-aggregate-write-numbers-2 : tie.Need-slice-aggregate-write-numbers-2
-unfolding accountRow
-slice-aggregate-write-numbers-2 c = rw (c .before .before .before .before .before .before .before .before .account-row .ensures)
-
-write-numbers-requires-2 : tie.Need-write-numbers-requires-2
-write-numbers-requires-2 c κs = tt
+write-account-requires : tie.Need-write-account-requires
+write-account-requires c κs = tt
 
 same-length : tie.Need-same-length
-same-length c = c .before .before .before .before .before .before .before .write-numbers .kept .0
+same-length c = c .before .before .before .before .before .before .write-numbers .kept .0
 
 same-length-2 : tie.Need-same-length-2
-same-length-2 c = c .before .before .write-numbers2 .kept .0
+same-length-2 c = c .before .before .write-account .kept .0
 
 returns : tie.Need-returns
 returns c =
-    let known = c .before .before .before .before .before .before .before .before .before .before .before .before .before .before in
+    let written = c .before .before .before .before .before .before in
+    let known = written .before .before .before .before .before .before in
+    let asked = known .before .before .before .before in
     let from = known .before .before .account-at .ensures in
     let by = known .before .answer-record .ensures in
-    let yes = answered _ _ _ _ _ _ from by (sym (known .before .before .before .before .is-account .ensures) ∙ known .before .before .before .if1 .taken) (known .if2 .taken) in (
+    let yes = answered _ _ _ _ _ _ from by (sym (asked .is-account .ensures) ∙ known .before .before .before .if1 .taken) (known .if2 .taken) in
+    let answer = asked .before .before .before .before .before .before .before .args .answer .now in (
       rw yes,
       (
-        rw yes (c .before .before .before .before .before .before .before .write-numbers .ensures ∙ ap (λ row. sets (c .before .before .before .before .before .before .before .before .before .before .before .before .before .before .before .before .before .before .before .before .before .before .before .before .before .args .answer .now) 0 row) (c .before .before .before .before .before .before .before .before .before .before .row-of .ensures ∙ ap rowOf (answer-is _ _ _ _ _ _ from by (known .if2 .taken)))),
-        rw (yes, ← (account-is _ _ _ _ _ _ from by (known .if2 .taken)), ← (c .before .before .before .before .before .before .before .before .before .before .before .account-row .ensures)) (c .before .before .write-numbers2 .ensures),
+        rw yes (written .write-numbers .ensures ∙ ap (λ row. sets answer 0 row) (written .before .before .before .row-of .ensures ∙ ap rowOf (answer-is _ _ _ _ _ _ from by (known .if2 .taken)))),
+        rw (yes, ← (account-is _ _ _ _ _ _ from by (known .if2 .taken))) (c .before .before .write-account .ensures),
       ),
     )
 
@@ -72,12 +67,10 @@ kozempil-call-spec =
     is-account-requires
     account-at-requires
     answer-record-requires
-    account-row-requires
     row-of-requires
     slice-aggregate-write-numbers
     write-numbers-requires
-    slice-aggregate-write-numbers-2
-    write-numbers-requires-2
+    write-account-requires
     same-length
     same-length-2
     returns

@@ -15,11 +15,11 @@ terms-at-requires c κs = tt
 prices-at-requires : tie.Need-prices-at-requires
 prices-at-requires c κs = tt
 
-shared-slice-read-answer-opening : tie.Need-shared-slice-read-answer-opening
-shared-slice-read-answer-opening c = search needs
+shared-slice-read-month : tie.Need-shared-slice-read-month
+shared-slice-read-month c = search needs
 
-cast-answer-opening : tie.Need-cast-answer-opening
-cast-answer-opening c = record { fits = month-fits _ (c .before .before .before .before .before .before .before .before .pre .1) (c .before .before .before .if1 .taken) }
+cast-month : tie.Need-cast-month
+cast-month c = record { fits = month-fits _ (c .before .before .before .before .before .before .before .before .pre .1) (c .before .before .before .if1 .taken) }
 
 answer-opening-requires : tie.Need-answer-opening-requires
 answer-opening-requires c κs = tt
@@ -38,17 +38,17 @@ answer-repricing-requires c κs = tt
 returns-2 : tie.Need-returns-2
 returns-2 c = rw (repricing-record _ _ _ (c .before .before .if2 .taken), ← (c .before .prices-at2 .ensures)) (c .answer-repricing .ensures)
 
-shared-slice-read-answer-billing : tie.Need-shared-slice-read-answer-billing
-shared-slice-read-answer-billing c = search needs
+shared-slice-read-month-2 : tie.Need-shared-slice-read-month-2
+shared-slice-read-month-2 c = search needs
 
-cast-answer-billing : tie.Need-cast-answer-billing
-cast-answer-billing c = record { fits = billing-fits _ (c .before .before .before .before .before .before .before .before .pre .1) (c .before .if3 .taken) .0 }
+cast-month-2 : tie.Need-cast-month-2
+cast-month-2 c = record { fits = billing-fits _ (c .before .before .before .before .before .before .before .before .pre .1) (c .before .if3 .taken) .0 }
 
-shared-slice-read-answer-billing-2 : tie.Need-shared-slice-read-answer-billing-2
-shared-slice-read-answer-billing-2 c = search needs
+shared-slice-read-critical-days : tie.Need-shared-slice-read-critical-days
+shared-slice-read-critical-days c = search needs
 
-cast-answer-billing-2 : tie.Need-cast-answer-billing-2
-cast-answer-billing-2 c = record { fits = billing-fits _ (c .before .before .before .before .before .before .before .before .before .pre .1) (c .before .before .if3 .taken) .1 }
+cast-critical-days : tie.Need-cast-critical-days
+cast-critical-days c = record { fits = billing-fits _ (c .before .before .before .before .before .before .before .before .before .pre .1) (c .before .before .if3 .taken) .1 }
 
 answer-billing-requires : tie.Need-answer-billing-requires
 answer-billing-requires c κs = tt
@@ -69,17 +69,17 @@ answer-call-spec =
     shared-slice-read-kind
     terms-at-requires
     prices-at-requires
-    shared-slice-read-answer-opening
-    cast-answer-opening
+    shared-slice-read-month
+    cast-month
     answer-opening-requires
     returns
     prices-at-requires-2
     answer-repricing-requires
     returns-2
-    shared-slice-read-answer-billing
-    cast-answer-billing
-    shared-slice-read-answer-billing-2
-    cast-answer-billing-2
+    shared-slice-read-month-2
+    cast-month-2
+    shared-slice-read-critical-days
+    cast-critical-days
     answer-billing-requires
     returns-3
     answer-closing-requires

@@ -1,42 +1,44 @@
--- `records::prices_at` reads the places of the price list.
+-- `records::prices_at` reads the numbers of the price list.
 use borrow.Author.Needs.{needs}
+use Rattle.records.specs.Sections.{pricesAt}
 use Rattle.records.proofs.prices_at.Statement.{statement}
 use Rattle.records.proofs.prices_at.Tie as tie
 
 four-at-requires : tie.Need-four-at-requires
 four-at-requires c κs = tt
 
-number-at-requires : tie.Need-number-at-requires
-number-at-requires c κs = tt
+number-from-requires : tie.Need-number-from-requires
+number-from-requires c κs = tt
 
-number-at-requires-2 : tie.Need-number-at-requires-2
-number-at-requires-2 c κs = tt
+number-from-requires-2 : tie.Need-number-from-requires-2
+number-from-requires-2 c κs = tt
 
-number-at-requires-3 : tie.Need-number-at-requires-3
-number-at-requires-3 c κs = tt
+number-from-requires-3 : tie.Need-number-from-requires-3
+number-from-requires-3 c κs = tt
 
-number-at-requires-4 : tie.Need-number-at-requires-4
-number-at-requires-4 c κs = tt
+number-from-requires-4 : tie.Need-number-from-requires-4
+number-from-requires-4 c κs = tt
 
-number-at-requires-5 : tie.Need-number-at-requires-5
-number-at-requires-5 c κs = tt
+number-from-requires-5 : tie.Need-number-from-requires-5
+number-from-requires-5 c κs = tt
 
-number-at-requires-6 : tie.Need-number-at-requires-6
-number-at-requires-6 c κs = tt
+number-from-requires-6 : tie.Need-number-from-requires-6
+number-from-requires-6 c κs = tt
 
-number-at-requires-7 : tie.Need-number-at-requires-7
-number-at-requires-7 c κs = tt
+number-from-requires-7 : tie.Need-number-from-requires-7
+number-from-requires-7 c κs = tt
 
 returns : tie.Need-returns
+unfolding pricesAt
 returns c =
     rw (
-      c .number-at7 .ensures,
-      c .before .number-at6 .ensures,
-      c .before .before .number-at5 .ensures,
-      c .before .before .before .number-at4 .ensures,
-      c .before .before .before .before .number-at3 .ensures,
-      c .before .before .before .before .before .number-at2 .ensures,
-      c .before .before .before .before .before .before .number-at .ensures,
+      c .number-from7 .ensures,
+      c .before .number-from6 .ensures,
+      c .before .before .number-from5 .ensures,
+      c .before .before .before .number-from4 .ensures,
+      c .before .before .before .before .number-from3 .ensures,
+      c .before .before .before .before .before .number-from2 .ensures,
+      c .before .before .before .before .before .before .number-from .ensures,
       c .before .before .before .before .before .before .before .four-at .ensures,
     )
 
@@ -45,11 +47,11 @@ prices-at-spec =
     tie.close
     (tie.spec
     four-at-requires
-    number-at-requires
-    number-at-requires-2
-    number-at-requires-3
-    number-at-requires-4
-    number-at-requires-5
-    number-at-requires-6
-    number-at-requires-7
+    number-from-requires
+    number-from-requires-2
+    number-from-requires-3
+    number-from-requires-4
+    number-from-requires-5
+    number-from-requires-6
+    number-from-requires-7
     returns)

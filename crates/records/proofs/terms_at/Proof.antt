@@ -1,5 +1,6 @@
--- `records::terms_at` reads the places of the terms.
+-- `records::terms_at` reads the numbers of the terms.
 use borrow.Author.Needs.{needs}
+use Rattle.records.specs.Sections.{termsAt}
 use Rattle.records.proofs.terms_at.Statement.{statement}
 use Rattle.records.proofs.terms_at.Tie as tie
 
@@ -9,29 +10,30 @@ number-at-requires c κs = tt
 rider-at-requires : tie.Need-rider-at-requires
 rider-at-requires c κs = tt
 
-number-at-requires-2 : tie.Need-number-at-requires-2
-number-at-requires-2 c κs = tt
+number-from-requires : tie.Need-number-from-requires
+number-from-requires c κs = tt
 
 class-at-requires : tie.Need-class-at-requires
 class-at-requires c κs = tt
 
-number-at-requires-3 : tie.Need-number-at-requires-3
-number-at-requires-3 c κs = tt
+number-from-requires-2 : tie.Need-number-from-requires-2
+number-from-requires-2 c κs = tt
 
-number-at-requires-4 : tie.Need-number-at-requires-4
-number-at-requires-4 c κs = tt
+number-from-requires-3 : tie.Need-number-from-requires-3
+number-from-requires-3 c κs = tt
 
-number-at-requires-5 : tie.Need-number-at-requires-5
-number-at-requires-5 c κs = tt
+number-from-requires-4 : tie.Need-number-from-requires-4
+number-from-requires-4 c κs = tt
 
 returns : tie.Need-returns
+unfolding termsAt
 returns c =
     rw (
-      c .number-at5 .ensures,
-      c .before .number-at4 .ensures,
-      c .before .before .number-at3 .ensures,
+      c .number-from4 .ensures,
+      c .before .number-from3 .ensures,
+      c .before .before .number-from2 .ensures,
       c .before .before .before .class-at .ensures,
-      c .before .before .before .before .number-at2 .ensures,
+      c .before .before .before .before .number-from .ensures,
       c .before .before .before .before .before .rider-at .ensures,
       c .before .before .before .before .before .before .number-at .ensures,
     )
@@ -42,9 +44,9 @@ terms-at-spec =
     (tie.spec
     number-at-requires
     rider-at-requires
-    number-at-requires-2
+    number-from-requires
     class-at-requires
-    number-at-requires-3
-    number-at-requires-4
-    number-at-requires-5
+    number-from-requires-2
+    number-from-requires-3
+    number-from-requires-4
     returns)
