@@ -2,20 +2,18 @@
 use mathlib.Core.Path.{_≡_, refl, sym, _∙_, ap}
 use mathlib.Core.Bool.{Bool, true, false, cond}
 use mathlib.Core.List.{List, [], _∷_, _++_, append-assoc, append-nil}
-use Prim.Native.Nat.{ℕ, zero, suc, _+_, _-_, _≤_, _<_, min}
-use native.Mathlib.Nat.{add-zero, suc-add, sub-zero}
-use native.Mathlib.Numerals.{add-one}
+use Prim.Native.Nat.{ℕ, zero, suc, _+_, _-_, _≤_, _<_}
+use native.Mathlib.Nat.{suc-add, sub-zero}
 use native.Mathlib.Omega.{arith}
 use borrow.Author.Tests.{le-leb, lt-leb, eqb-true}
-use lib.Dec.{eqb, leb}
+use lib.Dec.{eqb}
 use lib.ListN.{length, take, drop, length-take}
 use lib.Seq.{take-all}
 use Rattle.text.specs.Text.{placeOf}
-use Rattle.lines.specs.Statement.{State, lineRead}
 use Rattle.lines.specs.Feeding.{SoFar, afterByte, byteText, after, printed, takenOf}
 use Rattle.session.specs.Taking.{lineBytes}
 use Rattle.lines.proofs.Lengths.{text-fits}
-use Rattle.lines.proofs.Streams.{cut-text, cut-state, newline-state, newline-text, other-state, other-text, kept-again}
+use Rattle.lines.proofs.Streams.{newline-text, other-state, other-text, kept-again}
 
 -- Where the first newline stands.
 pub place-within : (l : List ℕ) → placeOf 10 l ≤ length l

@@ -4,11 +4,12 @@ ghost use mathlib.Core.Bool.{true};
 ghost use mathlib.Core.List.{[]};
 ghost use Prim.Native.Nat.{_≤_, min};
 ghost use lib.ListN.{length, take};
-ghost use Rattle.printing.specs.Writing.{hasRoom};
+ghost use Rattle.printing.specs.Writing.{hasRoom, Wrote};
 ghost use Rattle.lines.specs.Statement.{lineRead};
+ghost use Rattle.lines.specs.Feeding.{registersOf};
 ghost use Rattle.progress.specs.Progressing.{stateOf, Reads};
-ghost use Rattle.session.specs.Sessions.{soFarOf, Begins, SaysStopped, Feeds, Finishes};
-ghost use Rattle.session.specs.Taking.{Keeps, TakesLine, Takes, held};
+ghost use Rattle.session.specs.Sessions.{lent, soFarOf, Begins, SaysStopped, Feeds, Finishes};
+ghost use Rattle.session.specs.Taking.{keptOf, TakesLine, Takes, held};
 use progress::Ended;
 use progress::Progress;
 
@@ -35,6 +36,12 @@ pub struct Fed {
     pub written: usize,
 }
 
+// The buffer for the line that isn't complete yet, and how many bytes are held there.
+struct Kept {
+    line: [u8; 51],
+    held: usize,
+}
+
 // The smaller of two.
 fn least(a: usize, b: usize) -> usize
     ensures { λ r. ⌜ r ≡ min a b ⌝ }
@@ -45,19 +52,22 @@ fn least(a: usize, b: usize) -> usize
     b
 }
 
-// Keeps more bytes of a line that isn't complete yet, and says how many are held then.
-fn keep(line: &mut [u8], held: usize, bytes: &[u8]) -> usize
-    requires { ⌜ length (now line) ≡ 51 ⌝ }
-    ensures { λ r. ⌜ Keeps (now (line .entry)) held (now (bytes .entry)) (now (line .exit)) r ⌝ }
+// The bytes that are kept of a line with more of them behind, and how many are held then. What lies past them in the buffer stays there.
+fn keep(line: [u8; 51], held: usize, bytes: &[u8]) -> Kept
+    ensures { λ r. ⌜ Wrote line 0 (keptOf line held (now (bytes .entry))) (r .line) (r .held) ⌝ }
 {
     let start = least(held, KEPT_BYTES);
     let more = least(KEPT_BYTES - start, bytes.len());
+    let mut next = line;
     let mut place = 0;
     while place < more {
-        line[start + place] = bytes[place];
+        next[start + place] = bytes[place];
         place += 1;
     }
-    start + more
+    Kept {
+        line: next,
+        held: start + more,
+    }
 }
 
 // Reads the line whose bytes are held.
@@ -71,7 +81,7 @@ fn read_held(
     at: usize,
 ) -> Ended
     requires { ⌜ held ≤ length (now line) ⌝ }
-    ensures { λ r. ⌜ Reads (now (out .entry)) at (stateOf progress (now (delivered .entry)) (now (received .entry))) (lineRead (take held (now (line .entry))) (stateOf progress (now (delivered .entry)) (now (received .entry)))) (stateOf (r .progress) (now (delivered .exit)) (now (received .exit))) (now (out .exit)) (r .at) ⌝ }
+    ensures { λ r. ⌜ Reads (now (out .entry)) at (registersOf (now (delivered .entry)) (now (received .entry))) (stateOf progress (now (delivered .entry)) (now (received .entry))) (lineRead (take held (now (line .entry))) (stateOf progress (now (delivered .entry)) (now (received .entry)))) (stateOf (r .progress) (now (delivered .exit)) (now (received .exit))) (registersOf (now (delivered .exit)) (now (received .exit))) (now (out .exit)) (r .at) ⌝ }
 {
     progress.read_line(&line[..held], delivered, received, out, at)
 }
@@ -87,19 +97,24 @@ fn take_line(
     at: usize,
 ) -> Fed
     requires { ⌜ hasRoom (now out) at ≡ true ⌝ }
-    ensures { λ r. ⌜ TakesLine (soFarOf session (now (line .entry)) (now (delivered .entry)) (now (received .entry))) (now (input .entry)) (now (out .entry)) at (r .taken) (soFarOf (r .session) (now (line .exit)) (now (delivered .exit)) (now (received .exit))) (r .written) (now (out .exit)) ⌝ }
+    ensures { λ r. ⌜ TakesLine (soFarOf session (lent (now (line .entry)) (now (delivered .entry)) (now (received .entry)))) (lent (now (line .entry)) (now (delivered .entry)) (now (received .entry))) (now (input .entry)) (now (out .entry)) at (r .taken) (soFarOf (r .session) (lent (now (line .exit)) (now (delivered .exit)) (now (received .exit)))) (lent (now (line .exit)) (now (delivered .exit)) (now (received .exit))) (r .written) (now (out .exit)) ⌝ }
 {
     let progress = session.progress;
     let end = text::place_of(NEWLINE, input);
-    let held = keep(line, session.held, &input[..end]);
+    let kept = keep(*line, session.held, &input[..end]);
+    let whole = kept.line;
     if end == input.len() {
+        *line = whole;
         return Fed {
-            session: Session { held, progress },
+            session: Session {
+                held: kept.held,
+                progress,
+            },
             taken: end,
             written: at,
         };
     }
-    let ended = read_held(progress, line, held, delivered, received, out, at);
+    let ended = read_held(progress, &whole, kept.held, delivered, received, out, at);
     let after = ended.progress;
     Fed {
         session: Session {
@@ -122,7 +137,7 @@ fn take_runs(
     at: usize,
 ) -> Fed
     requires { ⌜ hasRoom (now out) at ≡ true ⌝ }
-    ensures { λ r. ⌜ Takes (held [] (stateOf progress (now (delivered .entry)) (now (received .entry)))) (now (input .entry)) (now (out .entry)) at (r .taken) (soFarOf (r .session) (now (line .exit)) (now (delivered .exit)) (now (received .exit))) (r .written) (now (out .exit)) ⌝ }
+    ensures { λ r. ⌜ Takes (held [] (stateOf progress (now (delivered .entry)) (now (received .entry)))) (lent (now (line .entry)) (now (delivered .entry)) (now (received .entry))) (now (input .entry)) (now (out .entry)) at (r .taken) (soFarOf (r .session) (lent (now (line .exit)) (now (delivered .exit)) (now (received .exit)))) (lent (now (line .exit)) (now (delivered .exit)) (now (received .exit))) (r .written) (now (out .exit)) ⌝ }
 {
     let ran = progress.read_runs(input, delivered, received);
     let after = ran.progress;
@@ -151,7 +166,7 @@ fn take_lines(
     at: usize,
 ) -> Fed
     requires { ⌜ hasRoom (now out) at ≡ true ⌝ }
-    ensures { λ r. ⌜ Takes (soFarOf session (now (line .entry)) (now (delivered .entry)) (now (received .entry))) (now (input .entry)) (now (out .entry)) at (r .taken) (soFarOf (r .session) (now (line .exit)) (now (delivered .exit)) (now (received .exit))) (r .written) (now (out .exit)) ⌝ }
+    ensures { λ r. ⌜ Takes (soFarOf session (lent (now (line .entry)) (now (delivered .entry)) (now (received .entry)))) (lent (now (line .entry)) (now (delivered .entry)) (now (received .entry))) (now (input .entry)) (now (out .entry)) at (r .taken) (soFarOf (r .session) (lent (now (line .exit)) (now (delivered .exit)) (now (received .exit)))) (lent (now (line .exit)) (now (delivered .exit)) (now (received .exit))) (r .written) (now (out .exit)) ⌝ }
 {
     if session.held == 0 {
         let progress = session.progress;
@@ -186,7 +201,7 @@ impl Session {
         input: &[u8],
         out: &mut [u8],
     ) -> Fed
-        ensures { λ r. ⌜ Feeds (soFarOf self (now (line .entry)) (now (delivered .entry)) (now (received .entry))) (now (input .entry)) (now (out .entry)) (r .taken) (soFarOf (r .session) (now (line .exit)) (now (delivered .exit)) (now (received .exit))) (r .written) (now (out .exit)) ⌝ }
+        ensures { λ r. ⌜ Feeds self (lent (now (line .entry)) (now (delivered .entry)) (now (received .entry))) (now (input .entry)) (now (out .entry)) (r .taken) (r .session) (lent (now (line .exit)) (now (delivered .exit)) (now (received .exit))) (r .written) (now (out .exit)) ⌝ }
     {
         if out.len() < LEAST_ROOM {
             return Fed {
@@ -234,7 +249,7 @@ impl Session {
         received: &mut [u32; 2976],
         out: &mut [u8],
     ) -> usize
-        ensures { λ r. ⌜ Finishes (soFarOf self (now (line .entry)) (now (delivered .entry)) (now (received .entry))) (now (out .entry)) r (now (out .exit)) ⌝ }
+        ensures { λ r. ⌜ Finishes self (lent (now (line .entry)) (now (delivered .entry)) (now (received .entry))) (now (out .entry)) (lent (now (line .exit)) (now (delivered .exit)) (now (received .exit))) r (now (out .exit)) ⌝ }
     {
         if out.len() < LEAST_ROOM {
             return 0;

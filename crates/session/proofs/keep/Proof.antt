@@ -1,20 +1,20 @@
 -- `session::keep` stores one byte after the other: `Keeping` has the step.
 use mathlib.Core.Path.{_≡_, refl, _∙_}
-use mathlib.Core.List.{_++_}
 use Prim.Native.Nat.{_≤_, _-_, _+_}
 use native.Mathlib.Omega.{arith}
 use borrow.Author.Needs.{needs}
 use lib.ListN.{length, getD, take, length-set}
-use Rattle.session.proofs.Keeping.{stored-none, stored-more, all-stored}
+use lib.Seq.{sets}
+use Rattle.session.proofs.Keeping.{stored-more, all-stored}
 use Rattle.session.proofs.keep.Statement.{statement}
 use Rattle.session.proofs.keep.Tie as tie
 
 abbrev Inv-loop : tie.InvT-loop
-Inv-loop line₀ held bytes start more place₀ line place =
-    (place ≤ more) × (length line ≡ length line₀) × (take (start + place) line ≡ take start line₀ ++ take place bytes)
+Inv-loop held bytes start more next₀ place₀ next place =
+    (place ≤ more) × (length next ≡ 51) × (next ≡ sets next₀ start (take place bytes))
 
 abbrev μ-loop : tie.MeasureT-loop
-μ-loop line₀ held bytes start more place₀ line place = more - place
+μ-loop held bytes start more next₀ place₀ next place = more - place
 
 least-requires : tie.Need-least-requires Inv-loop μ-loop
 least-requires c κs = search needs
@@ -26,18 +26,16 @@ least-requires-2 : tie.Need-least-requires-2 Inv-loop μ-loop
 least-requires-2 c κs = search needs
 
 loop-holds : tie.Need-loop-holds Inv-loop μ-loop
-loop-holds c =
-    let args = c .before .before .before .before .args in
-    (omega arith, refl, stored-none (args .line .now) (args .bytes .now) (c .before .least .result))
+loop-holds c = (omega arith, search needs, refl)
 
-shared-slice-read-line : tie.Need-shared-slice-read-line Inv-loop μ-loop
-shared-slice-read-line c = omega arith
+shared-slice-read-next : tie.Need-shared-slice-read-next Inv-loop μ-loop
+shared-slice-read-next c = omega arith
 
-add-line : tie.Need-add-line Inv-loop μ-loop
-add-line c = omega arith
+add-next : tie.Need-add-next Inv-loop μ-loop
+add-next c = omega arith
 
-slice-write-line : tie.Need-slice-write-line Inv-loop μ-loop
-slice-write-line c = omega arith
+array-write-next : tie.Need-array-write-next Inv-loop μ-loop
+array-write-next c = omega arith
 
 add-place : tie.Need-add-place Inv-loop μ-loop
 add-place c = omega arith
@@ -49,24 +47,21 @@ loop-again : tie.Need-loop-again Inv-loop μ-loop
 loop-again c =
     let lp = c .before .before .loop in
     let start = c .before .before .before .before .least .result in
-    let args = c .before .before .before .before .before .before .before .args in (
+    let args = c .before .before .before .before .before .before .args in (
       omega arith,
-      length-set (lp .line) (start + lp .place) (getD (args .bytes .now) (lp .place) 0) ∙ lp .inv .1,
-      stored-more (lp .line) (take start (args .line .now)) (args .bytes .now) start (lp .place) (omega arith) (omega arith) (lp .inv .2),
+      length-set (lp .next) (start + lp .place) (getD (args .bytes .now) (lp .place) 0) ∙ lp .inv .1,
+      stored-more (args .line) (lp .next) (args .bytes .now) start (lp .place) (omega arith) (lp .inv .2),
     )
 
-add-result : tie.Need-add-result Inv-loop μ-loop
-add-result c = omega arith
-
-same-length : tie.Need-same-length Inv-loop μ-loop
-same-length c = c .before .loop .inv .1
+add-t8 : tie.Need-add-t8 Inv-loop μ-loop
+add-t8 c = omega arith
 
 returns : tie.Need-returns Inv-loop μ-loop
 returns c =
     let lp = c .before .loop in
-    let st = c .before .before .before .before .before .before in
-    all-stored (st .args .line .now) (lp .line) (st .args .bytes .now) (st .args .held) (c .before .before .before .least .result)
-    (c .before .before .least2 .result) (lp .place) (st .pre) (c .before .before .before .least .ensures)
+    let args = c .before .before .before .before .before .args in
+    all-stored (args .line) (lp .next) (args .bytes .now) (args .held) (c .before .before .before .least .result)
+    (c .before .before .least2 .result) (lp .place) (lp .inv .1) (c .before .before .before .least .ensures)
     (c .before .before .least2 .ensures) (omega arith) (lp .inv .2)
 
 pub keep-spec : {M : Type 1} → statement M
@@ -79,12 +74,11 @@ keep-spec =
     sub-least
     least-requires-2
     loop-holds
-    shared-slice-read-line
-    add-line
-    slice-write-line
+    shared-slice-read-next
+    add-next
+    array-write-next
     add-place
     loop-less
     loop-again
-    add-result
-    same-length
+    add-t8
     returns)

@@ -1,9 +1,12 @@
 -- `session::take_line` keeps the bytes before a newline and reads the line that it ends: `Turns` has both cases.
+use mathlib.Core.Path.{refl, sym}
 use borrow.Author.Needs.{needs}
 use native.Mathlib.Omega.{arith}
 use lib.ListN.{length-take}
+use Rattle.progress.specs.Progressing.{stateOf}
+use Rattle.lines.proofs.Buffers.{readings-same}
 use Rattle.session.proofs.Taking.{place-within}
-use Rattle.session.proofs.Turns.{all-held, line-ended}
+use Rattle.session.proofs.Turns.{kept-within, all-held, line-ended}
 use Rattle.session.proofs.take_line.Statement.{statement}
 use Rattle.session.proofs.take_line.Tie as tie
 
@@ -20,19 +23,31 @@ keep-requires c κs = search needs
 
 returns : tie.Need-returns
 returns c =
-    let kept = c .before in
+    let kept = c .before .before in
     let found = kept .before .before .before in
     let args = found .before .before .before .before .args in
-    all-held (args .line .now) (args .input .now) (kept .keep .last .0) (args .out .now) (args .session .held) (kept .keep .result)
-    (found .place-of .result) (args .at) _ (found .place-of .ensures) (c .if1 .taken) (omega arith) (kept .keep .ensures)
+    let x = args .session .progress in
+    let d = args .delivered .now in
+    let e = args .received .now in
+    all-held (args .line .now) (kept .keep .result .line) (args .input .now) (args .out .now) (args .session .held) (kept .keep .result .held)
+    (found .place-of .result) (args .at) (stateOf x d e) _ (readings-same (stateOf x d e) (x .filled) d e refl refl) (found .place-of .ensures)
+    (search needs) (kept .keep .ensures) (c .if1 .taken)
+
+slice-aggregate-read-held : tie.Need-slice-aggregate-read-held
+slice-aggregate-read-held c = search needs
 
 read-held-requires : tie.Need-read-held-requires
-read-held-requires c κs = search needs
+read-held-requires c κs =
+    let kept = c .before .before .before .before .before .before in
+    let found = kept .before .before .before in
+    let args = found .before .before .before .before .args in
+    kept-within (args .line .now) (kept .keep .result .line) (args .input .now) (args .session .held) (kept .keep .result .held)
+    (found .place-of .result) (search needs) (kept .keep .ensures)
 
 add-t17 : tie.Need-add-t17
 add-t17 c =
-    let else = c .before .before .before .before .before .before .before .before .before in
-    let found = else .before .before .before .before in
+    let else = c .before .before .before .before .before .before .before .before in
+    let found = else .before .before .before .before .before in
     let start = found .before .before .before .before in
     omega (arith, place-within (start .args .input .now), found .place-of .ensures, else .if1 .left, start .good .1 .1 .1 .1 .0 .0)
 
@@ -42,14 +57,17 @@ same-length c = search needs
 returns-2 : tie.Need-returns-2
 returns-2 c =
     let read = c .before .before .before in
-    let else = read .before .before .before .before .before .before in
-    let kept = else .before in
+    let else = read .before .before .before .before .before in
+    let kept = else .before .before in
     let found = kept .before .before .before in
     let start = found .before .before .before .before in
     let args = start .args in
-    line-ended (args .line .now) (args .input .now) (kept .keep .last .0) (args .out .now) (read .read-held .last .1 .1 .1 .1 .1 .0)
-    (args .session .held) (kept .keep .result) (found .place-of .result) (args .at) (read .read-held .result .at) _ _
-    (found .place-of .ensures) (else .if1 .left) (omega (arith, kept .before .before .keep-arg .given .0)) (kept .keep .ensures) (start .pre) (read .read-held .ensures)
+    let x = args .session .progress in
+    let d = args .delivered .now in
+    let e = args .received .now in
+    line-ended (args .line .now) (kept .keep .result .line) (args .input .now) (args .out .now) (args .session .held) (kept .keep .result .held)
+    (found .place-of .result) (args .at) (stateOf x d e) _ (readings-same (stateOf x d e) (x .filled) d e refl refl) (found .place-of .ensures)
+    (sym (slice-aggregate-read-held (read .before .before .before .before))) (kept .keep .ensures) _ (read .read-held .result .at) _ _ (else .if1 .left) (start .pre) (read .read-held .ensures)
 
 pub take-line-spec : {M : Type 1} → statement M
 take-line-spec =
@@ -59,6 +77,7 @@ take-line-spec =
     slice-aggregate-keep
     keep-requires
     returns
+    slice-aggregate-read-held
     read-held-requires
     add-t17
     same-length

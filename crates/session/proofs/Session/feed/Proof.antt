@@ -3,24 +3,25 @@ use Prim.Native.Nat.{_-_}
 use native.Mathlib.Omega.{arith}
 use borrow.Author.Needs.{needs}
 use lib.ListN.{length}
-use Rattle.session.specs.Sessions.{soFarOf}
+use Rattle.session.specs.Sessions.{lent, soFarOf}
 use Rattle.session.proofs.Going.{Going, none-fed, going-start, going-more, going-none, going-all, more-taken, same-long, room-yes, room-none}
 use Rattle.session.proofs.Session.feed.Statement.{statement}
 use Rattle.session.proofs.Session.feed.Tie as tie
 
 abbrev Inv-loop : tie.InvT-loop
 Inv-loop line₀ delivered₀ received₀ input out₀ session₀ taken₀ written₀ line delivered received out session taken written =
-    Going (soFarOf session₀ line₀ delivered₀ received₀) input out₀ taken (soFarOf session line delivered received) written out
+    Going (soFarOf session₀ (lent line₀ delivered₀ received₀)) (lent line₀ delivered₀ received₀) input out₀ taken
+    (soFarOf session (lent line delivered received)) (lent line delivered received) written out
 
 abbrev μ-loop : tie.MeasureT-loop
 μ-loop line₀ delivered₀ received₀ input out₀ session₀ taken₀ written₀ line delivered received out session taken written =
     length input - taken
 
 returns : tie.Need-returns Inv-loop μ-loop
-returns c = none-fed _ _ _ (c .if1 .taken)
+returns c = none-fed _ _ _ _ (c .if1 .taken)
 
 loop-holds : tie.Need-loop-holds Inv-loop μ-loop
-loop-holds c = going-start _ _ _ (c .if1 .left)
+loop-holds c = going-start (c .before .before .before .args .self) _ _ _ (c .if1 .left)
 
 has-room-requires : tie.Need-has-room-requires Inv-loop μ-loop
 has-room-requires c κs = search needs
@@ -69,7 +70,7 @@ loop-again c =
     let else = made .before .before .before .before .before .before in
     let inside = else .before .before .before in
     let lines = made .take-lines in
-    going-more {later = soFarOf (lines .result .session) (lines .last .1 .0) (lines .last .1 .1 .0) (lines .last .1 .1 .1 .0)}
+    going-more {later = soFarOf (lines .result .session) (lent (lines .last .1 .0) (lines .last .1 .1 .0) (lines .last .1 .1 .1 .0))}
     (inside .before .loop .inv) (inside .loop-test .taken)
     (room-yes _ _ _ (else .before .has-room .ensures) (else .if2 .left)) (lines .ensures)
 

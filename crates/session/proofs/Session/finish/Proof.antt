@@ -1,12 +1,16 @@
 -- `session::Session::finish` reads the bytes that are held, if there are any, and writes what the end prints: `Ending` has both cases.
+use mathlib.Core.Path.{refl}
 use native.Mathlib.Omega.{arith}
 use borrow.Author.Needs.{needs}
+use Rattle.progress.specs.Progressing.{stateOf}
+use Rattle.lines.proofs.Buffers.{readings-same}
+use Rattle.session.specs.Sessions.{lent}
 use Rattle.session.proofs.Ending.{finish-none, finish-whole, finish-line}
 use Rattle.session.proofs.Session.finish.Statement.{statement}
 use Rattle.session.proofs.Session.finish.Tie as tie
 
 returns : tie.Need-returns
-returns c = finish-none _ _ (c .if1 .taken)
+returns c = finish-none _ _ _ (c .if1 .taken)
 
 least-requires : tie.Need-least-requires
 least-requires c κs = search needs
@@ -24,8 +28,11 @@ returns-2 c =
     let least = then .before in
     let else = least .before .before in
     let args = else .before .before .args in
-    finish-whole (args .line .now) (args .out .now) (put .finish .last .1 .1 .1 .0) (args .self .held) (least .least .result) (put .finish .result) _
-    (least .least .ensures) (then .if2 .taken) (else .if1 .left) (put .finish .ensures)
+    let x = args .self .progress in
+    let d = args .delivered .now in
+    let e = args .received .now in
+    finish-whole (args .self) (lent (args .line .now) d e) (args .out .now) (put .finish .last .1 .1 .1 .0) (least .least .result) (put .finish .result)
+    (least .least .ensures) (then .if2 .taken) (else .if1 .left) (readings-same (stateOf x d e) (x .filled) d e refl refl) (put .finish .ensures .text)
 
 read-held-requires : tie.Need-read-held-requires
 read-held-requires c κs = search needs
@@ -44,9 +51,10 @@ returns-3 c =
     let least = else .before in
     let long = least .before .before in
     let args = long .before .before .args in
-    finish-line (args .line .now) (args .out .now) (read .read-held .last .1 .1 .1 .1 .1 .0) (put .finish2 .last .1 .1 .1 .0) (args .self .held)
-    (least .least .result) (read .read-held .result .at) (put .finish2 .result) _ _ (omega (arith, read .before .before .before .before .read-held-arg .given))
-    (least .least .ensures) (else .if2 .left) (long .if1 .left) (read .read-held .ensures) (put .finish2 .ensures)
+    finish-line (args .self) (lent (args .line .now) (args .delivered .now) (args .received .now)) (args .out .now)
+    (read .read-held .last .1 .1 .1 .1 .1 .0) (put .finish2 .last .1 .1 .1 .0) (least .least .result) (read .read-held .result .at)
+    (put .finish2 .result) _ _ (omega (arith, read .before .before .before .before .read-held-arg .given))
+    (least .least .ensures) (else .if2 .left) (long .if1 .left) (read .read-held .ensures) (put .finish2 .ensures .text)
 
 pub finish-spec : {M : Type 1} → statement M
 finish-spec =
