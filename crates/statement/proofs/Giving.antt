@@ -10,7 +10,8 @@ use lib.Seq.{take-all, take-add}
 use Rattle.lines.specs.Statement.{hasStopped}
 use Rattle.lines.specs.Feeding.{SoFar, nothingRead, after}
 use Rattle.lines.proofs.Streams.{cut-state, taken-some}
-use Rattle.session.specs.Sessions.{leastRoom, Feeds}
+use Rattle.session.specs.declared.Session.{Session}
+use Rattle.session.specs.Sessions.{Lent, soFarOf, leastRoom, Feeds}
 use Rattle.statement.specs.Giving.{Gives}
 
 -- So many bytes were given.
@@ -23,18 +24,18 @@ unfolding after
 given-none before input = record { inside = omega arith; stands = refl }
 
 -- Some more are, where there is room enough.
-pub given-more : {before current later : SoFar} {out outLater : List ℕ} {t written : ℕ} (input : List ℕ) (taken : ℕ)
-    → leastRoom ≤ length out → GivenSoFar before input taken current → taken < length input
-    → Feeds current (take (length input - taken) (drop taken input)) out t later written outLater
-    → (taken < taken + t) × GivenSoFar before input (taken + t) later
-given-more {before} {current} {later} {out} {t = t} input taken room g h fed =
+pub given-more : {before : SoFar} {x y : Session} {b c : Lent} {out outLater : List ℕ} {t written : ℕ} (input : List ℕ) (taken : ℕ)
+    → leastRoom ≤ length out → GivenSoFar before input taken (soFarOf x b) → taken < length input
+    → Feeds x b (take (length input - taken) (drop taken input)) out t y c written outLater
+    → (taken < taken + t) × GivenSoFar before input (taken + t) (soFarOf y c)
+given-more {before} {x} {y} {b} {c} {out} {t = t} input taken room g h fed =
     let rest = drop taken input in
     let long : length rest ≡ length input - taken = length-drop taken input in
     let f = rw (take-all (length input - taken) rest (omega arith)) at fed in
     let takes = rw (le-leb leastRoom (length out) room) at (f .takes) in
-    let both : after before (take (taken + t) input) ≡ later
+    let both : after before (take (taken + t) input) ≡ soFarOf y c
     = rw (take-add taken t input, cut-state before (take taken input) (take t rest), ← g .stands) (sym (f .stands)) in (
-      omega (arith, takes, taken-some (length out) current rest (omega arith) (omega arith)),
+      omega (arith, takes, taken-some (length out) (soFarOf x b) rest (omega arith) (omega arith)),
       record { inside = omega (arith, f .inside); stands = sym both },
     )
 

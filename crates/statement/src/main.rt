@@ -1,7 +1,7 @@
 // The program `statement`: feeds a session with standard input, and writes what it prints to standard output.
 ghost use Prim.Native.Nat.{_≤_};
 ghost use lib.ListN.{length};
-ghost use Rattle.session.specs.Sessions.{soFarOf};
+ghost use Rattle.session.specs.Sessions.{lent, soFarOf};
 ghost use Rattle.statement.specs.Giving.{Gives};
 use libc::STDIN_FILENO;
 use libc::STDOUT_FILENO;
@@ -47,7 +47,7 @@ fn give(
     out: &mut [u8],
 ) -> Given
     requires { ⌜ 2048 ≤ length (now out) ⌝ }
-    ensures { λ r. ⌜ Gives (soFarOf session (now (line .entry)) (now (delivered .entry)) (now (received .entry))) (now (input .entry)) (soFarOf (r .session) (now (line .exit)) (now (delivered .exit)) (now (received .exit))) (r .going) ⌝ }
+    ensures { λ r. ⌜ Gives (soFarOf session (lent (now (line .entry)) (now (delivered .entry)) (now (received .entry)))) (now (input .entry)) (soFarOf (r .session) (lent (now (line .exit)) (now (delivered .exit)) (now (received .exit)))) (r .going) ⌝ }
 {
     let mut session = session;
     let mut taken = 0;

@@ -10,9 +10,10 @@ use lib.ListN.{length, take, length-append}
 use lib.Seq.{sets, length-sets, length-take-le, take-take}
 use Rattle.printing.specs.Writing.{Wrote}
 use Rattle.lines.specs.Statement.{lastNumber}
-use Rattle.lines.specs.Feeding.{SoFar, ending}
+use Rattle.lines.specs.Feeding.{ending}
 use Rattle.lines.proofs.Streams.{taken-some}
-use Rattle.session.specs.Sessions.{leastRoom, Feeds, Finishes}
+use Rattle.session.specs.declared.Session.{Session}
+use Rattle.session.specs.Sessions.{Lent, soFarOf, leastRoom, Feeds, Finishes}
 use Rattle.whole.specs.Adding.{Adds, FeedsSome}
 use Rattle.whole.proofs.Writing.{sets-append, sets-out, front}
 
@@ -43,28 +44,28 @@ chunk-front {chunk} {part} {chunkLater} {written} w h =
     let e : written ≡ length part = omega (arith, w .end) in
     rw (w .bytes, e) (front chunk part (omega arith))
 
-module _ {before : SoFar} {chunk chunkLater text textLater : List ℕ} {i j written : ℕ} (room : leastRoom ≤ length chunk)
+module _ {x : Session} {b : Lent} {chunk chunkLater text textLater : List ℕ} {i j written : ℕ} (room : leastRoom ≤ length chunk)
     (a : Adds text i (take written chunkLater) textLater j) where
   -- A session is fed a piece, and what it wrote is added. With so much room it takes some bytes.
-  pub fed-some : (input : List ℕ) (piece : ℕ) {taken : ℕ} {later : SoFar} → piece ≡ min (length input) 65536
-      → Feeds before (take piece input) chunk taken later written chunkLater → FeedsSome before input text i taken later textLater j
+  pub fed-some : (input : List ℕ) (piece : ℕ) {taken : ℕ} {y : Session} {c : Lent} → piece ≡ min (length input) 65536
+      → Feeds x b (take piece input) chunk taken y c written chunkLater → FeedsSome (soFarOf x b) input text i taken (soFarOf y c) textLater j
   fed-some input piece {taken} e f =
       let long : length (take piece input) ≡ piece = length-take-le piece input (omega arith) in
       let within : taken ≤ piece = omega (arith, f .inside) in
       let takes = rw (le-leb leastRoom (length chunk) room) at (f .takes) in
       let bytes = take-take taken piece input within in
       record {
-        some = λ h. omega (arith, takes, taken-some (length chunk) before (take piece input) (omega arith) (omega arith));
+        some = λ h. omega (arith, takes, taken-some (length chunk) (soFarOf x b) (take piece input) (omega arith) (omega arith));
         inside = omega arith;
         stands = rw bytes at (f .stands);
         adds = rw bytes at (rw (chunk-front (f .text) (f .fits)) at a);
       }
 
   -- The end of the input likewise.
-  pub finished : Finishes before chunk written chunkLater → Adds text i (ending before) textLater j
+  pub finished : {c : Lent} → Finishes x b chunk c written chunkLater → Adds text i (ending (soFarOf x b)) textLater j
   finished f =
       let yes = le-leb leastRoom (length chunk) room in
-      let bytes : chunkLater ≡ sets chunk 0 (ending before) = rw yes at (f .bytes) in
-      let long : written ≡ length (ending before) = rw yes at (f .end) in
-      let wrote : Wrote chunk 0 (ending before) chunkLater written = record { bytes = bytes; end = omega arith } in
+      let bytes : chunkLater ≡ sets chunk 0 (ending (soFarOf x b)) = rw yes at (f .bytes) in
+      let long : written ≡ length (ending (soFarOf x b)) = rw yes at (f .end) in
+      let wrote : Wrote chunk 0 (ending (soFarOf x b)) chunkLater written = record { bytes = bytes; end = omega arith } in
       rw (chunk-front wrote (f .fits)) at a

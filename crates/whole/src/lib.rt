@@ -5,7 +5,7 @@ ghost use lib.ListN.{length, take};
 ghost use lib.Seq.{sets};
 ghost use Rattle.lines.specs.Statement.{lastNumber, statementOf};
 ghost use Rattle.lines.specs.Feeding.{ending};
-ghost use Rattle.session.specs.Sessions.{soFarOf};
+ghost use Rattle.session.specs.Sessions.{lent, soFarOf};
 ghost use Rattle.whole.specs.Adding.{Adds, FeedsSome};
 ghost use Rattle.whole.specs.Whole.{lengthOf};
 use session::Session;
@@ -72,7 +72,7 @@ fn feed_some(
     text: &mut [u8],
     place: usize,
 ) -> Fed
-    ensures { λ r. ⌜ FeedsSome (soFarOf session (now (line .entry)) (now (delivered .entry)) (now (received .entry))) (now (input .entry)) (now (text .entry)) place (r .taken) (soFarOf (r .session) (now (line .exit)) (now (delivered .exit)) (now (received .exit))) (now (text .exit)) (r .place) ⌝ }
+    ensures { λ r. ⌜ FeedsSome (soFarOf session (lent (now (line .entry)) (now (delivered .entry)) (now (received .entry)))) (now (input .entry)) (now (text .entry)) place (r .taken) (soFarOf (r .session) (lent (now (line .exit)) (now (delivered .exit)) (now (received .exit)))) (now (text .exit)) (r .place) ⌝ }
 {
     let piece = least(input.len(), PIECE_BYTES);
     let fed = session.feed(line, delivered, received, &input[..piece], chunk);
@@ -94,7 +94,7 @@ fn finish(
     text: &mut [u8],
     place: usize,
 ) -> usize
-    ensures { λ r. ⌜ Adds (now (text .entry)) place (ending (soFarOf session (now (line .entry)) (now (delivered .entry)) (now (received .entry)))) (now (text .exit)) r ⌝ }
+    ensures { λ r. ⌜ Adds (now (text .entry)) place (ending (soFarOf session (lent (now (line .entry)) (now (delivered .entry)) (now (received .entry))))) (now (text .exit)) r ⌝ }
 {
     let written = session.finish(line, delivered, received, chunk);
     add(text, place, chunk, written)

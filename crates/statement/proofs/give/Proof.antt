@@ -5,14 +5,14 @@ use Prim.Native.Nat.{_-_}
 use native.Mathlib.Omega.{arith}
 use borrow.Author.Needs.{needs}
 use lib.ListN.{length}
-use Rattle.session.specs.Sessions.{soFarOf}
+use Rattle.session.specs.Sessions.{lent, soFarOf}
 use Rattle.statement.proofs.Giving.{GivenSoFar, given-none, given-more, given-all, given-up}
 use Rattle.statement.proofs.give.Statement.{statement}
 use Rattle.statement.proofs.give.Tie as tie
 
 abbrev Inv-loop : tie.InvT-loop
 Inv-loop line₀ delivered₀ received₀ input out₀ session₀ taken₀ line delivered received out session taken =
-    (length out ≡ length out₀) × GivenSoFar (soFarOf session₀ line₀ delivered₀ received₀) input taken (soFarOf session line delivered received)
+    (length out ≡ length out₀) × GivenSoFar (soFarOf session₀ (lent line₀ delivered₀ received₀)) input taken (soFarOf session (lent line delivered received))
 
 abbrev μ-loop : tie.MeasureT-loop
 μ-loop line₀ delivered₀ received₀ input out₀ session₀ taken₀ line delivered received out session taken =
@@ -38,8 +38,7 @@ add-taken c =
     let fed = c .before .before .before .before in
     let inside = fed .before .before .before .before .before .before in
     let start = inside .before .before .before .before in
-    let later = soFarOf (fed .feed .result .session) (fed .feed .last .1 .0) (fed .feed .last .1 .1 .0) (fed .feed .last .1 .1 .1 .0) in
-    let given = given-more {later = later} (start .args .input .now) (inside .before .loop .taken) (omega (arith, inside .before .loop .inv .0, start .pre))
+    let given = given-more (start .args .input .now) (inside .before .loop .taken) (omega (arith, inside .before .loop .inv .0, start .pre))
     (inside .before .loop .inv .1) (inside .loop-test .taken) (fed .feed .ensures) .1 in
     omega (arith, start .good .1 .1 .1 .1 .0 .0, given .inside)
 
@@ -61,8 +60,7 @@ loop-less c =
     let fed = c .before .before .before .before .before .before .before in
     let inside = fed .before .before .before .before .before .before in
     let start = inside .before .before .before .before in
-    let later = soFarOf (fed .feed .result .session) (fed .feed .last .1 .0) (fed .feed .last .1 .1 .0) (fed .feed .last .1 .1 .1 .0) in
-    let given = given-more {later = later} (start .args .input .now) (inside .before .loop .taken) (omega (arith, inside .before .loop .inv .0, start .pre))
+    let given = given-more (start .args .input .now) (inside .before .loop .taken) (omega (arith, inside .before .loop .inv .0, start .pre))
     (inside .before .loop .inv .1) (inside .loop-test .taken) (fed .feed .ensures) .0 in
     omega (arith, given)
 
@@ -71,8 +69,7 @@ loop-again c =
     let fed = c .before .before .before .before .before .before .before in
     let inside = fed .before .before .before .before .before .before in
     let start = inside .before .before .before .before in
-    let later = soFarOf (fed .feed .result .session) (fed .feed .last .1 .0) (fed .feed .last .1 .1 .0) (fed .feed .last .1 .1 .1 .0) in
-    let given = given-more {later = later} (start .args .input .now) (inside .before .loop .taken) (omega (arith, inside .before .loop .inv .0, start .pre))
+    let given = given-more (start .args .input .now) (inside .before .loop .taken) (omega (arith, inside .before .loop .inv .0, start .pre))
     (inside .before .loop .inv .1) (inside .loop-test .taken) (fed .feed .ensures) .1 in
     (fed .feed .kept .1 .1 .1 .1 .1 .0 ∙ inside .before .loop .inv .0, given)
 

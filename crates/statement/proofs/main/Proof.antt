@@ -5,14 +5,14 @@ use native.Mathlib.Omega.{arith}
 use borrow.Author.Needs.{needs}
 use borrow.Author.Tests.{not-false}
 use lib.ListN.{length, length-take}
-use Rattle.session.specs.Sessions.{soFarOf}
+use Rattle.session.specs.Sessions.{lent, soFarOf}
 use Rattle.statement.proofs.Giving.{Reached, reached-none, reached-more}
 use Rattle.statement.proofs.main.Statement.{statement}
 use Rattle.statement.proofs.main.Tie as tie
 
 abbrev Inv-loop : tie.InvT-loop
 Inv-loop line₀ delivered₀ received₀ input₀ out₀ session₀ turns₀ line delivered received input out session turns =
-    (65536 ≡ length input) × (65536 ≡ length out) × Reached (soFarOf session line delivered received)
+    (65536 ≡ length input) × (65536 ≡ length out) × Reached (soFarOf session (lent line delivered received))
 
 abbrev μ-loop : tie.MeasureT-loop
 μ-loop line₀ delivered₀ received₀ input₀ out₀ session₀ turns₀ line delivered received input out session turns =

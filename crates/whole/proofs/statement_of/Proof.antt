@@ -6,14 +6,14 @@ use native.Mathlib.Omega.{arith}
 use borrow.Author.Needs.{needs}
 use lib.ListN.{length}
 use lib.Seq.{length-sets}
-use Rattle.session.specs.Sessions.{soFarOf}
+use Rattle.session.specs.Sessions.{lent, soFarOf}
 use Rattle.whole.proofs.Going.{Going, going-start, going-more, going-stopped, going-all, same-long, whole-long}
 use Rattle.whole.proofs.statement_of.Statement.{statement}
 use Rattle.whole.proofs.statement_of.Tie as tie
 
 abbrev Inv-loop : tie.InvT-loop
 Inv-loop input text₀ line₀ delivered₀ received₀ chunk₀ session₀ taken₀ place₀ text line delivered received chunk session taken place =
-    Going input text₀ taken (soFarOf session line delivered received) text place
+    Going input text₀ taken (soFarOf session (lent line delivered received)) text place
 
 abbrev μ-loop : tie.MeasureT-loop
 μ-loop input text₀ line₀ delivered₀ received₀ chunk₀ session₀ taken₀ place₀ text line delivered received chunk session taken place =
@@ -42,7 +42,7 @@ add-taken c =
     let fed = c .before .before .before .before in
     let inside = fed .before .before .before .before .before .before .before in
     let start = inside .before .before .before .before .before in
-    let later = soFarOf (fed .feed-some .result .session) (fed .feed-some .last .1 .0) (fed .feed-some .last .1 .1 .0) (fed .feed-some .last .1 .1 .1 .0) in
+    let later = soFarOf (fed .feed-some .result .session) (lent (fed .feed-some .last .1 .0) (fed .feed-some .last .1 .1 .0) (fed .feed-some .last .1 .1 .1 .0)) in
     let g = going-more {later = later} (omega (arith, start .good)) (inside .before .loop .inv) (inside .loop-test .taken) (fed .feed-some .ensures) .1 in
     omega (arith, start .good, g .inside)
 
@@ -54,7 +54,7 @@ same-length c =
     let fed = c .before .before .before .before .before .before in
     let inside = fed .before .before .before .before .before .before .before in
     let start = inside .before .before .before .before .before in
-    let later = soFarOf (fed .feed-some .result .session) (fed .feed-some .last .1 .0) (fed .feed-some .last .1 .1 .0) (fed .feed-some .last .1 .1 .1 .0) in
+    let later = soFarOf (fed .feed-some .result .session) (lent (fed .feed-some .last .1 .0) (fed .feed-some .last .1 .1 .0) (fed .feed-some .last .1 .1 .1 .0)) in
     same-long (going-more {later = later} (omega (arith, start .good)) (inside .before .loop .inv) (inside .loop-test .taken) (fed .feed-some .ensures) .1)
 
 returns : tie.Need-returns Inv-loop μ-loop
@@ -62,7 +62,7 @@ returns c =
     let fed = c .before .before .before .before .before .before in
     let inside = fed .before .before .before .before .before .before .before in
     let start = inside .before .before .before .before .before in
-    let later = soFarOf (fed .feed-some .result .session) (fed .feed-some .last .1 .0) (fed .feed-some .last .1 .1 .0) (fed .feed-some .last .1 .1 .1 .0) in
+    let later = soFarOf (fed .feed-some .result .session) (lent (fed .feed-some .last .1 .0) (fed .feed-some .last .1 .1 .0) (fed .feed-some .last .1 .1 .1 .0)) in
     let g = going-more {later = later} (omega (arith, start .good)) (inside .before .loop .inv) (inside .loop-test .taken) (fed .feed-some .ensures) .1 in
     let all = going-stopped g (sym (c .before .is-stopped .ensures [] (fed .feed-some .last .1 .1 .0) (fed .feed-some .last .1 .1 .1 .0)) ∙ c .if1 .taken) (omega (arith, fed .feed-some .ensures .adds .end)) in
     (all .bytes, (whole-long all, refl))
@@ -72,7 +72,7 @@ loop-less c =
     let fed = c .before .before .before .before .before .before in
     let inside = fed .before .before .before .before .before .before .before in
     let start = inside .before .before .before .before .before in
-    let later = soFarOf (fed .feed-some .result .session) (fed .feed-some .last .1 .0) (fed .feed-some .last .1 .1 .0) (fed .feed-some .last .1 .1 .1 .0) in
+    let later = soFarOf (fed .feed-some .result .session) (lent (fed .feed-some .last .1 .0) (fed .feed-some .last .1 .1 .0) (fed .feed-some .last .1 .1 .1 .0)) in
     omega (arith, going-more {later = later} (omega (arith, start .good)) (inside .before .loop .inv) (inside .loop-test .taken) (fed .feed-some .ensures) .0)
 
 loop-again : tie.Need-loop-again Inv-loop μ-loop
@@ -80,7 +80,7 @@ loop-again c =
     let fed = c .before .before .before .before .before .before in
     let inside = fed .before .before .before .before .before .before .before in
     let start = inside .before .before .before .before .before in
-    let later = soFarOf (fed .feed-some .result .session) (fed .feed-some .last .1 .0) (fed .feed-some .last .1 .1 .0) (fed .feed-some .last .1 .1 .1 .0) in
+    let later = soFarOf (fed .feed-some .result .session) (lent (fed .feed-some .last .1 .0) (fed .feed-some .last .1 .1 .0) (fed .feed-some .last .1 .1 .1 .0)) in
     going-more {later = later} (omega (arith, start .good)) (inside .before .loop .inv) (inside .loop-test .taken) (fed .feed-some .ensures) .1
 
 finish-requires : tie.Need-finish-requires Inv-loop μ-loop
