@@ -13,6 +13,9 @@ use session::Session;
 // The most bytes that a session is fed at once: between such pieces it is asked whether a fault has stopped it.
 const PIECE_BYTES: usize = 65536;
 
+// Room for what a session prints in between: with at least 2,048 bytes it takes some of the input each time.
+const CHUNK_BYTES: usize = 4096;
+
 // A session after bytes, how many it took, and where the text that follows goes.
 struct Fed {
     session: Session,
@@ -68,19 +71,19 @@ fn feed_some(
     delivered: &mut [u32; 2976],
     received: &mut [u32; 2976],
     input: &[u8],
-    chunk: &mut [u8; 4096],
     text: &mut [u8],
     place: usize,
 ) -> Fed
     ensures { λ r. ⌜ FeedsSome (soFarOf session (lent (now (line .entry)) (now (delivered .entry)) (now (received .entry)))) (now (input .entry)) (now (text .entry)) place (r .taken) (soFarOf (r .session) (lent (now (line .exit)) (now (delivered .exit)) (now (received .exit)))) (now (text .exit)) (r .place) ⌝ }
 {
+    let mut chunk = [0u8; CHUNK_BYTES];
     let piece = least(input.len(), PIECE_BYTES);
-    let fed = session.feed(line, delivered, received, &input[..piece], chunk);
+    let fed = session.feed(line, delivered, received, &input[..piece], &mut chunk);
     let later = fed.session;
     Fed {
         session: later,
         taken: fed.taken,
-        place: add(text, place, chunk, fed.written),
+        place: add(text, place, &chunk, fed.written),
     }
 }
 
@@ -90,14 +93,14 @@ fn finish(
     line: &[u8; 51],
     delivered: &mut [u32; 2976],
     received: &mut [u32; 2976],
-    chunk: &mut [u8; 4096],
     text: &mut [u8],
     place: usize,
 ) -> usize
     ensures { λ r. ⌜ Adds (now (text .entry)) place (ending (soFarOf session (lent (now (line .entry)) (now (delivered .entry)) (now (received .entry))))) (now (text .exit)) r ⌝ }
 {
-    let written = session.finish(line, delivered, received, chunk);
-    add(text, place, chunk, written)
+    let mut chunk = [0u8; CHUNK_BYTES];
+    let written = session.finish(line, delivered, received, &mut chunk);
+    add(text, place, &chunk, written)
 }
 
 // Writes the statement of an input to the front of a text, as much of it as fits, and says how long the whole is.
@@ -109,7 +112,6 @@ pub fn statement_of(input: &[u8], text: &mut [u8]) -> u64
     let mut line = [0u8; 51];
     let mut delivered = [0u32; 2976];
     let mut received = [0u32; 2976];
-    let mut chunk = [0u8; 4096];
     let mut session = Session::start();
     let mut taken = 0;
     let mut place = 0;
@@ -120,7 +122,6 @@ pub fn statement_of(input: &[u8], text: &mut [u8]) -> u64
             &mut delivered,
             &mut received,
             &input[taken..],
-            &mut chunk,
             text,
             place,
         );
@@ -131,13 +132,5 @@ pub fn statement_of(input: &[u8], text: &mut [u8]) -> u64
             return place as u64;
         }
     }
-    finish(
-        session,
-        &line,
-        &mut delivered,
-        &mut received,
-        &mut chunk,
-        text,
-        place,
-    ) as u64
+    finish(session, &line, &mut delivered, &mut received, text, place) as u64
 }

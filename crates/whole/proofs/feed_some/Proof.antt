@@ -12,8 +12,14 @@ least-requires c κs = search needs
 slice-aggregate-feed : tie.Need-slice-aggregate-feed
 slice-aggregate-feed c = simp length-take (omega arith)
 
+slice-aggregate-feed-2 : tie.Need-slice-aggregate-feed-2
+slice-aggregate-feed-2 c = search needs
+
 feed-requires : tie.Need-feed-requires
 feed-requires c κs = search needs
+
+slice-aggregate-add : tie.Need-slice-aggregate-add
+slice-aggregate-add c = search needs
 
 add-requires : tie.Need-add-requires
 add-requires c κs = search needs
@@ -30,4 +36,13 @@ returns c =
 
 pub feed-some-spec : {M : Type 1} → statement M
 feed-some-spec =
-    tie.close (tie.spec least-requires slice-aggregate-feed feed-requires add-requires same-length returns)
+    tie.close
+    (tie.spec
+    least-requires
+    slice-aggregate-feed
+    slice-aggregate-feed-2
+    feed-requires
+    slice-aggregate-add
+    add-requires
+    same-length
+    returns)

@@ -12,11 +12,11 @@ use Rattle.whole.proofs.statement_of.Statement.{statement}
 use Rattle.whole.proofs.statement_of.Tie as tie
 
 abbrev Inv-loop : tie.InvT-loop
-Inv-loop input text₀ line₀ delivered₀ received₀ chunk₀ session₀ taken₀ place₀ text line delivered received chunk session taken place =
+Inv-loop input text₀ line₀ delivered₀ received₀ session₀ taken₀ place₀ text line delivered received session taken place =
     Going input text₀ taken (soFarOf session (lent line delivered received)) text place
 
 abbrev μ-loop : tie.MeasureT-loop
-μ-loop input text₀ line₀ delivered₀ received₀ chunk₀ session₀ taken₀ place₀ text line delivered received chunk session taken place =
+μ-loop input text₀ line₀ delivered₀ received₀ session₀ taken₀ place₀ text line delivered received session taken place =
     length input - taken
 
 start-requires : tie.Need-start-requires Inv-loop μ-loop
@@ -40,7 +40,7 @@ feed-some-requires c κs = search needs
 add-taken : tie.Need-add-taken Inv-loop μ-loop
 add-taken c =
     let fed = c .before .before .before .before in
-    let inside = fed .before .before .before .before .before .before .before in
+    let inside = fed .before .before .before .before .before .before in
     let start = inside .before .before .before .before .before in
     let later = soFarOf (fed .feed-some .result .session) (lent (fed .feed-some .last .1 .0) (fed .feed-some .last .1 .1 .0) (fed .feed-some .last .1 .1 .1 .0)) in
     let g = going-more {later = later} (omega (arith, start .good)) (inside .before .loop .inv) (inside .loop-test .taken) (fed .feed-some .ensures) .1 in
@@ -52,7 +52,7 @@ is-stopped-requires c κs = search needs
 same-length : tie.Need-same-length Inv-loop μ-loop
 same-length c =
     let fed = c .before .before .before .before .before .before in
-    let inside = fed .before .before .before .before .before .before .before in
+    let inside = fed .before .before .before .before .before .before in
     let start = inside .before .before .before .before .before in
     let later = soFarOf (fed .feed-some .result .session) (lent (fed .feed-some .last .1 .0) (fed .feed-some .last .1 .1 .0) (fed .feed-some .last .1 .1 .1 .0)) in
     same-long (going-more {later = later} (omega (arith, start .good)) (inside .before .loop .inv) (inside .loop-test .taken) (fed .feed-some .ensures) .1)
@@ -60,7 +60,7 @@ same-length c =
 returns : tie.Need-returns Inv-loop μ-loop
 returns c =
     let fed = c .before .before .before .before .before .before in
-    let inside = fed .before .before .before .before .before .before .before in
+    let inside = fed .before .before .before .before .before .before in
     let start = inside .before .before .before .before .before in
     let later = soFarOf (fed .feed-some .result .session) (lent (fed .feed-some .last .1 .0) (fed .feed-some .last .1 .1 .0) (fed .feed-some .last .1 .1 .1 .0)) in
     let g = going-more {later = later} (omega (arith, start .good)) (inside .before .loop .inv) (inside .loop-test .taken) (fed .feed-some .ensures) .1 in
@@ -70,7 +70,7 @@ returns c =
 loop-less : tie.Need-loop-less Inv-loop μ-loop
 loop-less c =
     let fed = c .before .before .before .before .before .before in
-    let inside = fed .before .before .before .before .before .before .before in
+    let inside = fed .before .before .before .before .before .before in
     let start = inside .before .before .before .before .before in
     let later = soFarOf (fed .feed-some .result .session) (lent (fed .feed-some .last .1 .0) (fed .feed-some .last .1 .1 .0) (fed .feed-some .last .1 .1 .1 .0)) in
     omega (arith, going-more {later = later} (omega (arith, start .good)) (inside .before .loop .inv) (inside .loop-test .taken) (fed .feed-some .ensures) .0)
@@ -78,7 +78,7 @@ loop-less c =
 loop-again : tie.Need-loop-again Inv-loop μ-loop
 loop-again c =
     let fed = c .before .before .before .before .before .before in
-    let inside = fed .before .before .before .before .before .before .before in
+    let inside = fed .before .before .before .before .before .before in
     let start = inside .before .before .before .before .before in
     let later = soFarOf (fed .feed-some .result .session) (lent (fed .feed-some .last .1 .0) (fed .feed-some .last .1 .1 .0) (fed .feed-some .last .1 .1 .1 .0)) in
     going-more {later = later} (omega (arith, start .good)) (inside .before .loop .inv) (inside .loop-test .taken) (fed .feed-some .ensures) .1
@@ -89,13 +89,13 @@ finish-requires c κs = search needs
 same-length-2 : tie.Need-same-length-2 Inv-loop μ-loop
 same-length-2 c =
     let ended = c .before .before in
-    let loop = ended .before .before .before .before .before .before in
+    let loop = ended .before .before .before .before .before in
     ap length (going-all (loop .before .loop .inv) (loop .loop-test .left) (ended .finish .ensures) .bytes) ∙ simp length-sets
 
 returns-2 : tie.Need-returns-2 Inv-loop μ-loop
 returns-2 c =
     let ended = c .before .before in
-    let loop = ended .before .before .before .before .before .before in
+    let loop = ended .before .before .before .before .before in
     let all = going-all (loop .before .loop .inv) (loop .loop-test .left) (ended .finish .ensures) in
     (all .bytes, (whole-long all, refl))
 
