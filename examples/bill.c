@@ -42,8 +42,13 @@ static void bill(uint64_t month)
         calls[i] = opening[i];
         calls[KOZEMPIL_CALL + i] = billing[i];
     }
-    kozempil_run(calls, CALLS * KOZEMPIL_CALL, delivered, READINGS, received, READINGS,
-                 answers, CALLS * KOZEMPIL_ANSWER, account, KOZEMPIL_ACCOUNT);
+    const struct kozempil_counts counts =
+        kozempil_run(calls, CALLS * KOZEMPIL_CALL, delivered, READINGS, received, READINGS,
+                     answers, CALLS * KOZEMPIL_ANSWER, account, KOZEMPIL_ACCOUNT);
+    if (counts.answered < CALLS || counts.written < CALLS) {
+        printf("a record is no call, or the buffer for answers is too short\n");
+        return;
+    }
     printf("opening %" PRIu64 ", billing %" PRIu64 ", due %" PRIu64 " cents\n", answers[NUMBER], answer[NUMBER], answer[DUE]);
 }
 

@@ -28,6 +28,12 @@ extern "C" {
 #define KOZEMPIL_BILLING 2
 #define KOZEMPIL_CLOSING 3
 
+/* How many calls of a list are answered, and how many rows of answers are written whole. */
+struct kozempil_counts {
+    uint64_t answered;
+    uint64_t written;
+};
+
 /* Answers a list of calls from the fresh account, and writes the account after it.
  *
  * Each buffer is a pointer and its length in elements. Those that are written, answers and account, may overlap no other.
@@ -82,7 +88,7 @@ extern "C" {
  *     18 to 21   carried, four by period
  *     22         standing
  */
-void kozempil_run(
+struct kozempil_counts kozempil_run(
     const uint64_t *calls, size_t calls_len,
     const uint32_t *delivered, size_t delivered_len,
     const uint32_t *received, size_t received_len,

@@ -1,16 +1,24 @@
--- The interface for C: how an account is written to a lent buffer and read from one. w is such a buffer.
+-- The interface for C: how an account is written to a lent buffer and read from one, and what a list of calls leaves there. w is the row of an
+-- account.
+use mathlib.Core.Path.{_≡_}
 use mathlib.Core.Bool.{Bool, cond, _&&_}
 use mathlib.Core.List.{List, [], _∷_, _++_}
-use Prim.Native.Nat.{ℕ, _+_, _^_}
+use Prim.Native.Nat.{ℕ, _+_, _/_, _^_, min}
 use lib.Dec.{eqb, leb, ltb}
 use lib.ListN.{length, getD}
+use lib.Seq.{sets}
 use Rattle.hours.specs.Hours.{four}
 use Rattle.registers.specs.DayView.{Part}
 use Rattle.account.specs.declared.Stage.{Stage}
 use Rattle.account.specs.declared.Stage.the-variants.{Fresh, Open, Closed}
 use Rattle.account.specs.declared.Account.{Account}
+use Rattle.account.specs.Account.{freshAccount}
 use Rattle.records.specs.Sections.{termsLength, termsNumbers, termsAt, knownTerms, pricesLength, pricesNumbers, pricesAt, fourAt}
 use Rattle.records.specs.Records.{recordLength, isCall}
+use Rattle.records.specs.Rows.{rowLength}
+use Rattle.balances.specs.Calls.{Call, answersOf, lastOf}
+use Rattle.ledger.specs.Encoding.{rowsOf}
+use Rattle.kozempil.specs.declared.Counts.{Counts}
 
 -- Stages as numbers.
 abbrev pub stageCode : Stage → ℕ
@@ -64,6 +72,14 @@ accountAt w =
       carried = fourAt w carriedPlace;
       standing = getD w standingPlace 0;
     }
+
+-- A list of calls from the fresh account: rows of its answers and the row of the last account are written to two buffers, each from its front,
+-- and what doesn't fit is left out (`sets`); r counts the calls answered and the rows of answers written whole.
+pub record ListAnswered (cs : List Call) (answersBefore answersAfter accountBefore accountAfter : List ℕ) (r : Counts) : Type 0 where
+  pub answered : r .answered ≡ length cs
+  pub written : r .written ≡ min (length cs) (length answersBefore / rowLength)
+  pub answers : answersAfter ≡ sets answersBefore 0 (rowsOf (answersOf freshAccount cs))
+  pub account : accountAfter ≡ sets accountBefore 0 (accountRow (lastOf freshAccount cs))
 
 -- A call on a given account is answered where the numbers are an account, and the record is a call of a record's length.
 unfoldable pub isAnswered : List ℕ → List ℕ → Bool

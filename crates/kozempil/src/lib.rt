@@ -1,15 +1,15 @@
 // The interface for C and Rust. include/kozempil.h says what each number of each buffer is.
 ghost use mathlib.Core.Path.{_≡_};
-ghost use mathlib.Core.Bool.{true, cond};
+ghost use mathlib.Core.Bool.{cond};
 ghost use Prim.Native.Nat.{_<_, _^_};
 ghost use lib.ListN.{length, getD};
 ghost use lib.Seq.{sets};
 ghost use Rattle.registers.specs.DayView.{viewOf};
-ghost use Rattle.account.specs.Account.{freshAccount};
 ghost use Rattle.records.specs.Rows.{rowOf};
-ghost use Rattle.balances.specs.Calls.{answerOf, accountAfter, answersOf, lastOf};
-ghost use Rattle.ledger.specs.Encoding.{callOf, callsIn, rowsOf};
-ghost use Rattle.kozempil.specs.Interface.{stageCode, stageAt, nextPlace, accountLength, accountRow, isAccount, accountAt, isAnswered, partNumbers};
+ghost use Rattle.balances.specs.Calls.{answerOf, accountAfter};
+ghost use Rattle.ledger.specs.Encoding.{callOf, callsIn};
+ghost use Rattle.kozempil.specs.Interface.{stageCode, stageAt, nextPlace, accountLength, accountRow};
+ghost use Rattle.kozempil.specs.Interface.{isAccount, accountAt, ListAnswered, isAnswered, partNumbers};
 use account::Account;
 use account::Stage;
 
@@ -62,6 +62,13 @@ fn write_account(buffer: &mut [u64], account: Account)
     records::write_numbers(buffer, NEXT_PLACE, &rest[..]);
 }
 
+// How many calls of a list are answered, and how many rows of answers are written whole.
+#[repr(C)]
+pub struct Counts {
+    pub answered: u64,
+    pub written: u64,
+}
+
 // Answers a list of calls from the fresh account.
 #[no_mangle]
 pub extern "C" fn kozempil_run(
@@ -70,12 +77,17 @@ pub extern "C" fn kozempil_run(
     received: &[u32],
     answers: &mut [u64],
     account: &mut [u64],
-)
-    ensures { λ r. ⌜ now (answers .exit) ≡ sets (now (answers .entry)) 0 (rowsOf (answersOf freshAccount (callsIn (now (calls .entry)) (now (delivered .entry)) (now (received .entry))))) ⌝ }
-    ensures { λ r. ⌜ now (account .exit) ≡ sets (now (account .entry)) 0 (accountRow (lastOf freshAccount (callsIn (now (calls .entry)) (now (delivered .entry)) (now (received .entry))))) ⌝ }
+) -> Counts
+    ensures { λ r. ⌜ ListAnswered (callsIn (now (calls .entry)) (now (delivered .entry)) (now (received .entry))) (now (answers .entry)) (now (answers .exit)) (now (account .entry)) (now (account .exit)) r ⌝ }
+    ensures { λ r. ⌜ (now (calls .exit) ≡ now (calls .entry)) × (now (delivered .exit) ≡ now (delivered .entry)) × (now (received .exit) ≡ now (received .entry)) ⌝ }
 {
-    let last = ledger::run(calls, delivered, received, answers);
+    let ran = ledger::run(Account::fresh(), calls, delivered, received, answers);
+    let last = ran.account;
     write_account(account, last);
+    Counts {
+        answered: ran.answered,
+        written: ran.written,
+    }
 }
 
 fn stage_at(code: u64) -> Stage
@@ -141,6 +153,7 @@ pub extern "C" fn kozempil_call(
     ensures { λ r. ⌜ r ≡ cond (isAnswered (now (account .entry)) (now (call .entry))) 1 0 ⌝ }
     ensures { λ r. ⌜ now (answer .exit) ≡ cond (isAnswered (now (account .entry)) (now (call .entry))) (sets (now (answer .entry)) 0 (rowOf (answerOf (accountAt (now (account .entry))) (callOf (now (call .entry)) (now (delivered .entry)) (now (received .entry)))))) (now (answer .entry)) ⌝ }
     ensures { λ r. ⌜ now (after .exit) ≡ cond (isAnswered (now (account .entry)) (now (call .entry))) (sets (now (after .entry)) 0 (accountRow (accountAfter (accountAt (now (account .entry))) (callOf (now (call .entry)) (now (delivered .entry)) (now (received .entry)))))) (now (after .entry)) ⌝ }
+    ensures { λ r. ⌜ (now (account .exit) ≡ now (account .entry)) × (now (call .exit) ≡ now (call .entry)) × (now (delivered .exit) ≡ now (delivered .entry)) × (now (received .exit) ≡ now (received .entry)) ⌝ }
 {
     if is_account(account) {
         let before = account_at(account);

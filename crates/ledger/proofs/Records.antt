@@ -6,7 +6,7 @@ use borrow.Author.Tests.{ne-eqb}
 use lib.ListN.{getD}
 use Rattle.records.specs.Sections.{termsAt, pricesAt}
 use Rattle.records.specs.Records.{openingKind, repricingKind, billingKind, kindOf, termsPlace, pricesPlace, firstMonthPlace, monthPlace, criticalPlace}
-use Rattle.balances.specs.Calls.{Call, opening, repricing, billing, closing}
+use Rattle.balances.specs.Calls.{opening, repricing, billing, closing}
 use Rattle.ledger.specs.Encoding.{callOf}
 
 module _ (w delivered received : List ℕ) where

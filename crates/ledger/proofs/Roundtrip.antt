@@ -1,16 +1,16 @@
 -- A list of calls, lent by its records and registers, is read back as that list: each call by its own case.
-use mathlib.Core.Path.{_≡_, refl, _∙_}
+use mathlib.Core.Path.{_≡_, refl}
 use mathlib.Core.Bool.{true}
 use mathlib.Core.List.{List, [], _∷_, _++_, append-assoc}
 use Prim.Native.Nat.{ℕ, _+_, _-_, _*_, _/_, _^_, _≤_}
 use native.Mathlib.Omega.{arith}
 use borrow.Author.Tests.{lt-ltb}
-use lib.ListN.{length, getD, take, drop, replicate, length-append, length-replicate}
+use lib.ListN.{length, getD, replicate, length-append, length-replicate}
 use lib.Seq.{take-append-seam, drop-append-seam, take-at, drop-at, getD-at}
 use Rattle.tariff.specs.declared.Terms.{Terms}
 use Rattle.tariff.specs.declared.PriceList.{PriceList}
 use Rattle.records.specs.Sections.{termsLength, termsNumbers, termsAt, knownTerms, pricesNumbers, pricesAt}
-use Rattle.records.specs.Records.{openingKind, repricingKind, kindOf, countAt, openingCodes, billingCodes, isCall}
+use Rattle.records.specs.Records.{openingKind, repricingKind, countAt, openingCodes, billingCodes, isCall}
 use Rattle.records.specs.Records.{termsPlace, pricesPlace, firstMonthPlace, deliveredPlace, receivedPlace, recordLength}
 use Rattle.records.proofs.Sections.{terms-long, terms-back, terms-known, prices-long, prices-back}
 use Rattle.balances.specs.Calls.{Call, opening, repricing, billing, closing}

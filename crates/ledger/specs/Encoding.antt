@@ -1,6 +1,5 @@
 -- How a list of calls is lent to `run`: a record for each call, and the readings of its billings one after the other in two registers; and
 -- how its answers are written: a row for each. w is the record of one call.
-use mathlib.Core.Path.{_≡_}
 use mathlib.Core.Bool.{true, false, cond, _&&_}
 use mathlib.Core.List.{List, [], _∷_, _++_}
 use Prim.Native.Nat.{ℕ, zero, suc, _-_, _/_, _^_, _<_}

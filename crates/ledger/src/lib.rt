@@ -1,4 +1,4 @@
-// A list of calls from the fresh account: every answer, and the last account.
+// A list of calls from any account: every answer, and the last account.
 ghost use mathlib.Core.Path.{_≡_};
 ghost use mathlib.Core.Bool.{true};
 ghost use lib.ListN.{length};
@@ -6,7 +6,7 @@ ghost use Rattle.records.specs.Records.{recordLength, isCall};
 ghost use Rattle.balances.specs.Calls.{opening, repricing, billing, closing};
 ghost use Rattle.ledger.specs.Encoding.{callOf, answeredOf};
 ghost use Rattle.ledger.specs.DemandThree.{DemandThree};
-ghost use Rattle.ledger.specs.Running.{plainAnswer, stepOf};
+ghost use Rattle.ledger.specs.Running.{plainAnswer, stepOf, ranTo};
 use account::Account;
 use account::ClosingAmounts;
 use records::Answer;
@@ -18,6 +18,13 @@ pub struct Answered {
     pub known: bool,
     pub account: Account,
     pub answer: Answer,
+}
+
+// The account after a list of calls, how many calls are answered, and how many rows of answers are written whole.
+pub struct Ran {
+    pub account: Account,
+    pub answered: u64,
+    pub written: u64,
 }
 
 // An answer, and the account after it.
@@ -163,13 +170,41 @@ pub fn answer_record(
     }
 }
 
-// Answers a list of calls from the fresh account. The calls are records of eighteen numbers, the readings of billings stand one
-// after the other in the two registers, and each answer is written to the buffer as a row of sixty numbers.
-pub fn run(calls: &[u64], delivered: &[u32], received: &[u32], answers: &mut [u64]) -> Account
-    ensures { λ r. ⌜ DemandThree (now (calls .entry)) (now (delivered .entry)) (now (received .entry)) (now (answers .entry)) (now (answers .exit)) r ⌝ }
+// The end of a list of which so many calls are answered, with so many numbers in the buffer for their rows.
+fn ran_to(account: Account, answered: usize, size: usize) -> Ran
+    ensures { λ r. ⌜ r ≡ ranTo account answered size ⌝ }
 {
-    let mut account = Account::fresh();
-    let mut left = calls.len() / records::RECORD;
+    let rows = size / records::ROW;
+    if answered < rows {
+        return Ran {
+            account,
+            answered: answered as u64,
+            written: answered as u64,
+        };
+    }
+    Ran {
+        account,
+        answered: answered as u64,
+        written: rows as u64,
+    }
+}
+
+// Answers a list of calls from an account. The calls are records, the readings of billings stand one after the other in the two
+// registers, and each answer is written to the buffer as a row. The list ends at the first record that is no call.
+pub fn run(
+    start: Account,
+    calls: &[u64],
+    delivered: &[u32],
+    received: &[u32],
+    answers: &mut [u64],
+) -> Ran
+    ensures { λ r. ⌜ DemandThree start (now (calls .entry)) (now (delivered .entry)) (now (received .entry)) (now (answers .entry)) (now (answers .exit)) r ⌝ }
+    ensures { λ r. ⌜ (now (calls .exit) ≡ now (calls .entry)) × (now (delivered .exit) ≡ now (delivered .entry)) × (now (received .exit) ≡ now (received .entry)) ⌝ }
+{
+    let size = answers.len();
+    let total = calls.len() / records::RECORD;
+    let mut account = start;
+    let mut left = total;
     let mut call = 0;
     let mut taken = 0;
     let mut given = 0;
@@ -178,7 +213,7 @@ pub fn run(calls: &[u64], delivered: &[u32], received: &[u32], answers: &mut [u6
         let end = call + records::RECORD;
         let record = &calls[call..end];
         if !records::is_call(record) {
-            return account;
+            return ran_to(account, total - left, size);
         }
         let taken_end = taken
             + records::readings_taken(record, records::DELIVERED_PLACE, delivered.len() - taken);
@@ -199,5 +234,5 @@ pub fn run(calls: &[u64], delivered: &[u32], received: &[u32], answers: &mut [u6
         given = given_end;
         row += records::ROW;
     }
-    account
+    ran_to(account, total, size)
 }

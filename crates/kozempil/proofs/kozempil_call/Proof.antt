@@ -1,5 +1,5 @@
 -- `kozempil::kozempil_call` writes what `ledger::answer_record` answers, where the numbers are an account and a call.
-use mathlib.Core.Path.{sym, ap, _∙_}
+use mathlib.Core.Path.{refl, sym, ap, _∙_}
 use lib.Seq.{sets}
 use Rattle.records.specs.Rows.{rowOf}
 use Rattle.kozempil.proofs.Calls.{account-numbers, answered, not-answered, answer-is, account-is, no-account}
@@ -45,7 +45,7 @@ returns c =
       rw yes,
       (
         rw yes (written .write-numbers .ensures ∙ ap (λ row. sets answer 0 row) (written .before .before .before .row-of .ensures ∙ ap rowOf (answer-is _ _ _ _ _ _ from by (known .if2 .taken)))),
-        rw (yes, ← (account-is _ _ _ _ _ _ from by (known .if2 .taken))) (c .before .before .write-account .ensures),
+        (rw (yes, ← (account-is _ _ _ _ _ _ from by (known .if2 .taken))) (c .before .before .write-account .ensures), (refl, refl, refl, refl)),
       ),
     )
 
@@ -53,12 +53,12 @@ returns-2 : tie.Need-returns-2
 returns-2 c =
     let no =
     not-answered _ _ _ _ _ _ (c .before .before .account-at .ensures) (c .before .answer-record .ensures) (c .if2 .left) in
-    (rw no, (rw no, rw no))
+    (rw no, (rw no, (rw no, (refl, refl, refl, refl))))
 
 returns-3 : tie.Need-returns-3
 returns-3 c =
     let no = no-account (c .before .before .before .before .before .before .before .before .args .account .now) (c .before .before .before .before .before .before .before .before .args .call .now) (sym (c .before .is-account .ensures) ∙ c .if1 .left) in
-    (rw no, (rw no, rw no))
+    (rw no, (rw no, (rw no, (refl, refl, refl, refl))))
 
 pub kozempil-call-spec : {M : Type 1} → statement M
 kozempil-call-spec =

@@ -1,6 +1,5 @@
 -- `ledger::answer_call` goes by the record's kind: `Records` has the call of each.
 use borrow.Author.Needs.{needs}
-use native.Mathlib.Omega.{arith}
 use Rattle.records.proofs.Laws.{month-fits, billing-fits}
 use Rattle.ledger.proofs.Records.{opening-record, repricing-record, billing-record, closing-record}
 use Rattle.ledger.proofs.answer_call.Statement.{statement}

@@ -1,5 +1,4 @@
 -- `ledger::answer_opening` hands on the account's reply.
-use borrow.Author.Needs.{needs}
 use Rattle.balances.specs.Calls.{answerOf, accountAfter}
 use Rattle.ledger.specs.Running.{stepOf}
 use Rattle.ledger.proofs.answer_opening.Statement.{statement}

@@ -1,5 +1,4 @@
 -- `ledger::plain_answer` is the definition.
-use borrow.Author.Needs.{needs}
 use Rattle.ledger.proofs.plain_answer.Statement.{statement}
 use Rattle.ledger.proofs.plain_answer.Tie as tie
 

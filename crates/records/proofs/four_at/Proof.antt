@@ -1,5 +1,4 @@
 -- `records::four_at` reads four numbers.
-use borrow.Author.Needs.{needs}
 use Rattle.records.proofs.four_at.Statement.{statement}
 use Rattle.records.proofs.four_at.Tie as tie
 

@@ -1,5 +1,4 @@
 -- `records::is_billing` makes the definition's tests.
-use borrow.Author.Needs.{needs}
 use borrow.Author.Tests.{lt-ltb, le-ltb}
 use Rattle.records.specs.Records.{billingCodes}
 use Rattle.records.proofs.is_billing.Statement.{statement}

@@ -1,5 +1,4 @@
 -- `records::is_call` goes by the record's kind.
-use borrow.Author.Needs.{needs}
 use borrow.Author.Tests.{eq-eqb, ne-eqb}
 use Rattle.records.specs.Records.{isCall}
 use Rattle.records.proofs.is_call.Statement.{statement}

@@ -1,5 +1,4 @@
 -- `records::is_opening` makes the definition's tests.
-use borrow.Author.Needs.{needs}
 use Rattle.records.specs.Records.{openingCodes}
 use Rattle.records.proofs.is_opening.Statement.{statement}
 use Rattle.records.proofs.is_opening.Tie as tie

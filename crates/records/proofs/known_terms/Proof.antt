@@ -1,5 +1,4 @@
 -- `records::known_terms` makes the definition's tests.
-use borrow.Author.Needs.{needs}
 use borrow.Author.Tests.{lt-leb, le-leb}
 use Rattle.records.specs.Sections.{knownTerms}
 use Rattle.records.proofs.known_terms.Statement.{statement}

@@ -1,5 +1,4 @@
 -- `records::prices_at` reads the numbers of the price list.
-use borrow.Author.Needs.{needs}
 use Rattle.records.specs.Sections.{pricesAt}
 use Rattle.records.proofs.prices_at.Statement.{statement}
 use Rattle.records.proofs.prices_at.Tie as tie

@@ -1,5 +1,4 @@
 -- `records::readings_taken` is the smaller of what the record says and what is left.
-use borrow.Author.Needs.{needs}
 use native.Mathlib.Nat.{min-eq-left, min-eq-right, zero-min, le-of-lt}
 use borrow.Author.Tests.{eq-eqb, ne-eqb}
 use Rattle.records.specs.Records.{countAt}

@@ -1,5 +1,4 @@
 -- `records::terms_at` reads the numbers of the terms.
-use borrow.Author.Needs.{needs}
 use Rattle.records.specs.Sections.{termsAt}
 use Rattle.records.proofs.terms_at.Statement.{statement}
 use Rattle.records.proofs.terms_at.Tie as tie

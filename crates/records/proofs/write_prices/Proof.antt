@@ -1,5 +1,4 @@
 -- `records::write_prices` lists the prices in their order.
-use borrow.Author.Needs.{needs}
 use mathlib.Core.Path.{refl}
 use Rattle.records.specs.Sections.{pricesNumbers}
 use Rattle.records.proofs.write_prices.Statement.{statement}

@@ -1,5 +1,4 @@
 -- `records::write_terms` lists the terms in their order, riders, classes and yes or no by their codes.
-use borrow.Author.Needs.{needs}
 use mathlib.Core.Path.{refl}
 use Rattle.records.specs.Sections.{termsNumbers}
 use Rattle.records.proofs.write_terms.Statement.{statement}
