@@ -158,7 +158,10 @@ fn list(months: &[Month]) {
     let mut times = [Vec::new(), Vec::new()];
     for _ in 0..LIST_ROUNDS {
         times[0].push(time(1, || {
-            interface::run(&calls, &delivered, &received, &mut answers, &mut last);
+            let counts = interface::run(&calls, &delivered, &received, &mut answers, &mut last);
+            assert!(
+                counts.answered == counts.written && counts.written as usize * ROW == answers.len()
+            );
         }));
         times[1].push(time(1, || {
             let mut account = opened(0);

@@ -3,7 +3,7 @@
 use crate::encode::{
     account_name, account_of, account_row, answer_of, row_name, row_of, Buffers, ACCOUNT, ROW,
 };
-use crate::interface;
+use crate::interface::{self, Counts};
 use harness::reference::account::{Account, Answer};
 use harness::reference::ledger::{check_balances, Amounts, Call, Imbalance, Ledger};
 use std::fmt;
@@ -28,7 +28,7 @@ impl Room {
     }
 }
 
-/// The two buffers after a run.
+/// The two buffers after a list of calls, or after one call.
 #[derive(Clone, Debug, PartialEq, Eq)]
 pub struct Written {
     pub answers: Vec<u64>,
@@ -41,19 +41,6 @@ impl Written {
             answers: vec![UNTOUCHED; room.answers],
             account: vec![UNTOUCHED; room.account],
         }
-    }
-
-    /// By the proved library.
-    pub fn by_library(buffers: &Buffers, room: Room) -> Written {
-        let mut written = Written::untouched(room);
-        interface::run(
-            &buffers.calls,
-            &buffers.delivered,
-            &buffers.received,
-            &mut written.answers,
-            &mut written.account,
-        );
-        written
     }
 
     /// As these answers and this account must be written.
@@ -84,6 +71,42 @@ impl Written {
     }
 }
 
+/// What a list of calls leaves: the two buffers, and the counts that are handed back.
+#[derive(Clone, Debug, PartialEq, Eq)]
+pub struct Run {
+    pub written: Written,
+    pub counts: Counts,
+}
+
+impl Run {
+    /// By the proved library.
+    pub fn by_library(buffers: &Buffers, room: Room) -> Run {
+        let mut written = Written::untouched(room);
+        let counts = interface::run(
+            &buffers.calls,
+            &buffers.delivered,
+            &buffers.received,
+            &mut written.answers,
+            &mut written.account,
+        );
+        Run { written, counts }
+    }
+
+    /// As these answers and this account must be written and counted: a row counts as
+    /// written where its last number is in the buffer.
+    pub fn expected(ledger: &Ledger, room: Room) -> Run {
+        let answered = ledger.answers.len();
+        let whole = (0..answered).filter(|row| ROW * row + ROW - 1 < room.answers);
+        Run {
+            written: Written::expected(ledger, room),
+            counts: Counts {
+                answered: answered as u64,
+                written: whole.count() as u64,
+            },
+        }
+    }
+}
+
 #[derive(Clone, Debug, PartialEq, Eq)]
 pub enum Difference {
     /// A number of the answers, by its place in the whole buffer.
@@ -98,6 +121,8 @@ pub enum Difference {
         library: u64,
         expected: u64,
     },
+    /// The counts of calls and of rows.
+    Counts { library: Counts, expected: Counts },
     /// The library's numbers are no answers to these calls, or no account.
     Unreadable,
     /// The library's own answers don't balance.
@@ -105,7 +130,16 @@ pub enum Difference {
 }
 
 impl Difference {
-    /// The first number in which two runs differ.
+    /// The first number in which two runs of a list differ.
+    pub fn between_runs(library: &Run, expected: &Run) -> Option<Difference> {
+        let counts = (library.counts != expected.counts).then_some(Difference::Counts {
+            library: library.counts,
+            expected: expected.counts,
+        });
+        Difference::between(&library.written, &expected.written).or(counts)
+    }
+
+    /// The first number in which the buffers differ.
     pub fn between(library: &Written, expected: &Written) -> Option<Difference> {
         let first = |library: &[u64], expected: &[u64]| {
             let place = (0..library.len()).find(|&place| library[place] != expected[place])?;
@@ -164,6 +198,10 @@ impl fmt::Display for Difference {
                 number(library),
                 number(expected)
             ),
+            Difference::Counts { library, expected } => write!(
+                formatter,
+                "counts: library {library:?}, expected {expected:?}"
+            ),
             Difference::Unreadable => write!(formatter, "the library's numbers can't be read"),
             Difference::Imbalance(imbalance) => {
                 write!(
@@ -179,11 +217,11 @@ impl fmt::Display for Difference {
 /// number; then checks demand 3 on the library's own answers.
 pub fn compare(calls: &[Call], expected: &Ledger) -> Result<Written, Difference> {
     let room = Room::for_calls(calls.len());
-    let library = Written::by_library(&Buffers::of(calls), room);
-    if let Some(difference) = Difference::between(&library, &Written::expected(expected, room)) {
+    let library = Run::by_library(&Buffers::of(calls), room);
+    if let Some(difference) = Difference::between_runs(&library, &Run::expected(expected, room)) {
         return Err(difference);
     }
-    let (answers, account) = library.read(calls).ok_or(Difference::Unreadable)?;
+    let (answers, account) = library.written.read(calls).ok_or(Difference::Unreadable)?;
     check_balances(calls, &answers, &account).map_err(Difference::Imbalance)?;
-    Ok(library)
+    Ok(library.written)
 }

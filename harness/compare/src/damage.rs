@@ -1,10 +1,11 @@
 //! Buffers that no list of calls is lent in, compared with what the header says of them.
 
-use crate::compare::{Difference, Room, Written};
+use crate::compare::{Difference, Room, Run};
 use crate::encode::{
     Buffers, ACCOUNT, ACCOUNT_LIMIT, BILLING, CRITICAL_DAYS, DELIVERED, KIND, MONTH, RECEIVED,
     RECORD, ROW,
 };
+use crate::interface::Counts;
 use crate::meaning::{calls_in, limit_shown};
 use harness::generate;
 use harness::random::Random;
@@ -33,26 +34,26 @@ pub struct Damaged {
 }
 
 impl Damaged {
-    pub fn by_library(&self) -> Written {
-        Written::by_library(&self.buffers, self.room)
+    pub fn by_library(&self) -> Run {
+        Run::by_library(&self.buffers, self.room)
     }
 
-    /// The number of calls, and how the header says that they are answered.
-    pub fn expected(&self) -> (usize, Written) {
+    /// How the header says that they are answered.
+    pub fn expected(&self) -> Run {
         meant(&self.buffers, self.room)
     }
 }
 
 /// What the header says that these buffers mean.
-fn meant(buffers: &Buffers, room: Room) -> (usize, Written) {
+fn meant(buffers: &Buffers, room: Room) -> Run {
     let calls = calls_in(buffers);
     let ledger = run(&calls);
-    let mut written = Written::expected(&ledger, room);
+    let mut run = Run::expected(&ledger, room);
     let limit = limit_shown(buffers, &calls, &ledger.answers);
-    if let (Some(limit), Some(place)) = (limit, written.account.get_mut(ACCOUNT_LIMIT)) {
+    if let (Some(limit), Some(place)) = (limit, run.written.account.get_mut(ACCOUNT_LIMIT)) {
         *place = limit;
     }
-    (calls.len(), written)
+    run
 }
 
 /// Each change of one list, and random ones.
@@ -213,14 +214,41 @@ fn change_billing(random: &mut Random, buffers: &mut Buffers) {
     }
 }
 
-/// Wrong readings of damaged buffers: each changes them to some that mean what it takes
-/// the damaged ones to mean.
-type Misreading = (&'static str, fn(Buffers) -> Buffers);
+/// A wrong reading of damaged buffers.
+#[derive(Clone, Copy)]
+pub enum Misread {
+    /// It takes them for others, which mean what it takes them to mean.
+    Buffers(fn(Buffers) -> Buffers),
+    /// It counts otherwise, from the right counts.
+    Counts(fn(&Damaged, Counts) -> Counts),
+}
 
-const MISREADINGS: [Misreading; 5] = [
+impl Misread {
+    fn of(self, damaged: &Damaged) -> Run {
+        match self {
+            Misread::Buffers(misread) => meant(&misread(damaged.buffers.clone()), damaged.room),
+            Misread::Counts(miscount) => {
+                let right = damaged.expected();
+                Run {
+                    counts: miscount(damaged, right.counts),
+                    ..right
+                }
+            }
+        }
+    }
+}
+
+type Misreading = (&'static str, Misread);
+
+/// As a number of calls or rows.
+fn count(number: usize) -> u64 {
+    number as u64
+}
+
+const MISREADINGS: [Misreading; 10] = [
     (
         "the list goes on after a record that is no call",
-        |buffers| {
+        Misread::Buffers(|buffers| {
             let is_call = |record: &&[u64]| {
                 let alone = Buffers {
                     calls: record.to_vec(),
@@ -238,35 +266,82 @@ const MISREADINGS: [Misreading; 5] = [
                     .collect(),
                 ..buffers
             }
-        },
+        }),
     ),
-    ("a billing's month has its low 32 bits", |mut buffers| {
-        for record in buffers.calls.chunks_exact_mut(RECORD) {
-            if record[KIND] == BILLING {
-                record[MONTH] &= u64::from(u32::MAX);
+    (
+        "a billing's month has its low 32 bits",
+        Misread::Buffers(|mut buffers| {
+            for record in buffers.calls.chunks_exact_mut(RECORD) {
+                if record[KIND] == BILLING {
+                    record[MONTH] &= u64::from(u32::MAX);
+                }
             }
-        }
-        buffers
-    }),
-    ("a record cut short is a call", |mut buffers| {
-        let length = buffers.calls.len().next_multiple_of(RECORD);
-        buffers.calls.resize(length, 0);
-        buffers
-    }),
-    ("readings that aren't lent are 0", |mut buffers| {
-        let length = 3_000 * (buffers.calls.len() / RECORD);
-        buffers.delivered.resize(length, 0);
-        buffers.received.resize(length, 0);
-        buffers
-    }),
-    ("unused numbers of a closing must be 0", |mut buffers| {
-        for record in buffers.calls.chunks_exact_mut(RECORD) {
-            if record[KIND] == 3 && record[1..].iter().any(|&number| number > 0) {
-                record[KIND] = 4;
+            buffers
+        }),
+    ),
+    (
+        "a record cut short is a call",
+        Misread::Buffers(|mut buffers| {
+            let length = buffers.calls.len().next_multiple_of(RECORD);
+            buffers.calls.resize(length, 0);
+            buffers
+        }),
+    ),
+    (
+        "readings that aren't lent are 0",
+        Misread::Buffers(|mut buffers| {
+            let length = 3_000 * (buffers.calls.len() / RECORD);
+            buffers.delivered.resize(length, 0);
+            buffers.received.resize(length, 0);
+            buffers
+        }),
+    ),
+    (
+        "unused numbers of a closing must be 0",
+        Misread::Buffers(|mut buffers| {
+            for record in buffers.calls.chunks_exact_mut(RECORD) {
+                if record[KIND] == 3 && record[1..].iter().any(|&number| number > 0) {
+                    record[KIND] = 4;
+                }
             }
-        }
-        buffers
-    }),
+            buffers
+        }),
+    ),
+    (
+        "each record that is lent counts as answered",
+        Misread::Counts(|damaged, right| Counts {
+            answered: count(damaged.buffers.calls.len() / RECORD),
+            ..right
+        }),
+    ),
+    (
+        "a record that is no call counts as answered",
+        Misread::Counts(|damaged, right| Counts {
+            answered: count(damaged.buffers.calls.len() / RECORD).min(right.answered + 1),
+            ..right
+        }),
+    ),
+    (
+        "calls whose rows don't fit aren't counted",
+        Misread::Counts(|_, right| Counts {
+            answered: right.written,
+            ..right
+        }),
+    ),
+    (
+        "rows that don't fit count as written",
+        Misread::Counts(|_, right| Counts {
+            written: right.answered,
+            ..right
+        }),
+    ),
+    (
+        "a row that is cut short counts as written",
+        Misread::Counts(|damaged, right| Counts {
+            written: count(damaged.room.answers.div_ceil(ROW)).min(right.answered),
+            ..right
+        }),
+    ),
 ];
 
 /// The wrong readings that no damaged buffers have shown to be wrong yet.
@@ -285,11 +360,10 @@ impl Watch {
         MISREADINGS.len() - self.unnoticed.len()
     }
 
-    /// Strikes out each reading by which the library would have written otherwise.
-    pub fn look(&mut self, damaged: &Damaged, library: &Written) {
+    /// Strikes out each reading by which the library would have written or counted otherwise.
+    pub fn look(&mut self, damaged: &Damaged, library: &Run) {
         self.unnoticed.retain(|(_, misread)| {
-            let (_, wrong) = meant(&misread(damaged.buffers.clone()), damaged.room);
-            Difference::between(library, &wrong).is_none()
+            Difference::between_runs(library, &misread.of(damaged)).is_none()
         });
     }
 }

@@ -3,6 +3,14 @@
 
 #![allow(unsafe_code)]
 
+/// How many calls of a list are answered, and how many rows of answers are written whole.
+#[repr(C)]
+#[derive(Clone, Copy, Debug, PartialEq, Eq)]
+pub struct Counts {
+    pub answered: u64,
+    pub written: u64,
+}
+
 unsafe extern "C" {
     fn kozempil_run(
         calls: *const u64,
@@ -15,7 +23,7 @@ unsafe extern "C" {
         answers_len: usize,
         account: *mut u64,
         account_len: usize,
-    );
+    ) -> Counts;
     fn kozempil_call(
         account: *const u64,
         account_len: usize,
@@ -44,13 +52,14 @@ unsafe extern "C" {
 }
 
 /// Answers the calls from the fresh account; writes the answers and the last account.
+#[must_use]
 pub fn run(
     calls: &[u64],
     delivered: &[u32],
     received: &[u32],
     answers: &mut [u64],
     account: &mut [u64],
-) {
+) -> Counts {
     // SAFETY: each pointer holds for as many elements as its length says, and nothing
     // else has the two buffers that are written.
     unsafe {
@@ -65,7 +74,7 @@ pub fn run(
             answers.len(),
             account.as_mut_ptr(),
             account.len(),
-        );
+        )
     }
 }
 

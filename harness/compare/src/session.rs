@@ -171,10 +171,10 @@ impl Session {
         let mut watch = damage::Watch::new();
         for damaged in damage::all() {
             let library = damaged.by_library();
-            let (calls, expected) = damaged.expected();
+            let expected = damaged.expected();
             self.lists += 1;
-            self.calls += calls;
-            match Difference::between(&library, &expected) {
+            self.calls += expected.counts.answered as usize;
+            match Difference::between_runs(&library, &expected) {
                 Some(difference) => self.damaged_difference(&damaged, &difference),
                 None => watch.look(&damaged, &library),
             }
