@@ -11,52 +11,55 @@
 #include <inttypes.h>
 #include <stdio.h>
 
-#define READINGS 2976
-#define CALLS 2
+enum { JANUARY_2000, FEBRUARY_2000, CALLS = 2 };
 
-/* Places of an answer. */
-#define NUMBER 0
-#define DUE 53
+static uint32_t delivered[KOZEMPIL_MOST_READINGS];
+static uint32_t received[KOZEMPIL_MOST_READINGS];
 
-static const uint64_t opening[KOZEMPIL_CALL] = {
-    KOZEMPIL_OPENING,
-    0, 0, 5000, 5000, 0,            /* banked, home, nameplate, demand limit, not assisted */
-    20000, 20000, 20000, 20000,     /* energy, by period */
-    0, 0, 0, 0, 0,                  /* demand, standby, bypass, credit, distribution */
-    1400, 0,                        /* basic, minimum */
-    0,                              /* first month: January 2000 */
-};
-
-static uint64_t calls[CALLS * KOZEMPIL_CALL];
-static uint32_t delivered[READINGS];
-static uint32_t received[READINGS];
-static uint64_t answers[CALLS * KOZEMPIL_ANSWER];
-static uint64_t account[KOZEMPIL_ACCOUNT];
-
+/* Opens a banked home, and bills a month with the registers of January. */
 static void bill(uint64_t month)
 {
-    const uint64_t billing[KOZEMPIL_CALL] = {KOZEMPIL_BILLING, month, READINGS, READINGS};
-    const uint64_t *answer = answers + KOZEMPIL_ANSWER;
+    const uint64_t readings = kozempil_register_length(JANUARY_2000);
+    const uint64_t calls[CALLS][KOZEMPIL_CALL] = {
+        {
+            [KOZEMPIL_CALL_KIND] = KOZEMPIL_OPENING,
+            [KOZEMPIL_CALL_RIDER] = KOZEMPIL_BANKED,
+            [KOZEMPIL_CALL_CLASS] = KOZEMPIL_HOME,
+            [KOZEMPIL_CALL_NAMEPLATE] = 5000,
+            [KOZEMPIL_CALL_LIMIT] = 5000,
+            [KOZEMPIL_CALL_ENERGY + KOZEMPIL_CRITICAL] = 20000,
+            [KOZEMPIL_CALL_ENERGY + KOZEMPIL_ON_PEAK] = 20000,
+            [KOZEMPIL_CALL_ENERGY + KOZEMPIL_OFF_PEAK] = 20000,
+            [KOZEMPIL_CALL_ENERGY + KOZEMPIL_DISCOUNT] = 20000,
+            [KOZEMPIL_CALL_BASIC] = 1400,
+            [KOZEMPIL_CALL_FIRST_MONTH] = JANUARY_2000,
+        },
+        {
+            [KOZEMPIL_CALL_KIND] = KOZEMPIL_BILLING,
+            [KOZEMPIL_CALL_MONTH] = month,
+            [KOZEMPIL_CALL_DELIVERED] = readings,
+            [KOZEMPIL_CALL_RECEIVED] = readings,
+        },
+    };
+    uint64_t answers[CALLS][KOZEMPIL_ANSWER];
+    uint64_t account[KOZEMPIL_ACCOUNT];
 
-    for (size_t i = 0; i < KOZEMPIL_CALL; i++) {
-        calls[i] = opening[i];
-        calls[KOZEMPIL_CALL + i] = billing[i];
-    }
-    const struct kozempil_counts counts =
-        kozempil_run(calls, CALLS * KOZEMPIL_CALL, delivered, READINGS, received, READINGS,
-                     answers, CALLS * KOZEMPIL_ANSWER, account, KOZEMPIL_ACCOUNT);
-    if (counts.answered < CALLS || counts.written < CALLS) {
-        printf("a record is no call, or the buffer for answers is too short\n");
+    struct kozempil_counts counts = kozempil_run(
+        calls[0], CALLS * KOZEMPIL_CALL, delivered, readings, received, readings,
+        answers[0], CALLS * KOZEMPIL_ANSWER, account, KOZEMPIL_ACCOUNT);
+    if (counts.answered < CALLS) {
+        printf("call %" PRIu64 " can't be read\n", counts.answered);
         return;
     }
-    printf("opening %" PRIu64 ", billing %" PRIu64 ", due %" PRIu64 " cents\n", answers[NUMBER], answer[NUMBER], answer[DUE]);
+    printf("opening %" PRIu64 ", billing %" PRIu64 ", due %" PRIu64 " cents\n", answers[0][KOZEMPIL_ANSWER_NUMBER],
+           answers[1][KOZEMPIL_ANSWER_NUMBER], answers[1][KOZEMPIL_ANSWER_DUE]);
 }
 
 int main(void)
 {
-    for (size_t i = 0; i < READINGS; i++)
+    for (size_t i = 0; i < KOZEMPIL_MOST_READINGS; i++)
         delivered[i] = 250;
-    bill(0);
-    bill(1);
+    bill(JANUARY_2000);
+    bill(FEBRUARY_2000);
     return 0;
 }

@@ -1,11 +1,15 @@
 /* Kozempil: bills of net metered accounts under the banked and the bridge rider.
  *
- * Link with libkozempil.a. The functions read and write the lent buffers only and keep nothing between calls. Every input has a defined
- * meaning.
+ * Link with libkozempil.a. Each function reads and writes the buffers that it is lent and keeps nothing between calls, so calls may run in
+ * several threads at once, as long as no buffer that one of them writes is lent to another at the same time. Every input has a defined
+ * meaning: no call fails, hangs or reads past a buffer.
  *
- * Energies are in Wh and powers in W. Prices are in hundred-thousandths of a dollar per kWh or per kW; basic, minimum and all other money
- * are in cents. Months count from 0, January 2000, to 1199, December 2099. "Four by period" are the amounts of period 0 (critical),
- * 1 (on-peak), 2 (off-peak) and 3 (discount).
+ * Buffers. Each is a pointer and its length in elements (not bytes). NULL is fine where the length is 0. A pointer is aligned as its type
+ * asks (8 bytes for uint64_t, 4 for uint32_t). A buffer that is written may overlap no other buffer of the call; those that are only read
+ * may overlap each other, and are unaltered. What doesn't fit a written buffer is left out, and the rest of a longer one stays as it was.
+ *
+ * Units. Energies are in Wh and powers in W. Prices are in hundred-thousandths of a dollar per kWh or per kW; basic, minimum and all other
+ * money are in cents. Months count from 0, January 2000. "By period" are four numbers: critical, on-peak, off-peak, discount.
  */
 #ifndef KOZEMPIL_H
 #define KOZEMPIL_H
@@ -17,76 +21,155 @@
 extern "C" {
 #endif
 
-/* Numbers of a call, of an answer and of the account. */
+/* The version of the layout of calls, answers and accounts. It rises when a place is added or moved, so compare it with what the library
+ * that you link says: KOZEMPIL_LAYOUT == kozempil_layout(). */
+#define KOZEMPIL_LAYOUT 1
+uint32_t kozempil_layout(void);
+
+/* Numbers of a call, of an answer and of an account. */
 #define KOZEMPIL_CALL 18
 #define KOZEMPIL_ANSWER 60
 #define KOZEMPIL_ACCOUNT 23
 
-/* Number 0 of a call. */
-#define KOZEMPIL_OPENING 0
-#define KOZEMPIL_REPRICING 1
-#define KOZEMPIL_BILLING 2
-#define KOZEMPIL_CLOSING 3
+/* Limits: the last month, December 2099; the largest price (of a kWh or a kW) and the largest basic or minimum; the largest nameplate of a home
+ * and of a business; the largest reading; the most critical days of a month; the most readings of a month; and what an account holds at most,
+ * in Wh by period and in cents. */
+#define KOZEMPIL_LAST_MONTH 1199
+#define KOZEMPIL_PRICE_LIMIT 1000000
+#define KOZEMPIL_AMOUNT_LIMIT 1000000
+#define KOZEMPIL_HOME_LIMIT 20000
+#define KOZEMPIL_BUSINESS_LIMIT 1000000
+#define KOZEMPIL_READING_LIMIT 1000000
+#define KOZEMPIL_MOST_CRITICAL_DAYS 10
+#define KOZEMPIL_MOST_READINGS 2976
+#define KOZEMPIL_CARRIED_LIMIT UINT64_C(4000000000000)
+#define KOZEMPIL_STANDING_LIMIT UINT64_C(4000000000000)
 
-/* How many calls of a list are answered, and how many rows of answers are written whole. */
+/* The number of an answer: 0, or why the call is refused. Where several apply, the lowest number is given, but 11 before 7. */
+enum {
+    KOZEMPIL_ACCEPTED = 0,
+    KOZEMPIL_REFUSED_NOT_OPEN = 1,            /* repricing, billing or closing of a fresh account */
+    KOZEMPIL_REFUSED_OPEN_ALREADY = 2,        /* opening of an open account */
+    KOZEMPIL_REFUSED_CLOSED = 3,              /* the account is closed, or one that can't arise */
+    KOZEMPIL_REFUSED_PRICE_LIST = 4,          /* a price or amount above its limit, or an energy price above the one before */
+    KOZEMPIL_REFUSED_CAPACITY = 5,            /* nameplate 0, or above the demand limit or the limit of its class */
+    KOZEMPIL_REFUSED_NO_BRIDGE = 6,           /* bridge rider for a business */
+    KOZEMPIL_REFUSED_MONTH = 7,               /* first month above the last one, or billing of a month other than the next */
+    KOZEMPIL_REFUSED_REGISTER_LENGTH = 8,     /* a register of another length than the month's */
+    KOZEMPIL_REFUSED_CRITICAL_DAYS = 9,       /* critical days past the month's last, or too many */
+    KOZEMPIL_REFUSED_READING = 10,            /* a reading above its limit */
+    KOZEMPIL_REFUSED_BOOK_FULL = 11           /* billing when the last month has been billed */
+};
+
+/* Periods, dearest first: what to add to a place "by period". */
+enum { KOZEMPIL_CRITICAL = 0, KOZEMPIL_ON_PEAK = 1, KOZEMPIL_OFF_PEAK = 2, KOZEMPIL_DISCOUNT = 3 };
+
+/* Codes: the kind of a call, riders, classes, and the stage of an account. Assisted is 0 for no and 1 for yes. */
+enum { KOZEMPIL_OPENING = 0, KOZEMPIL_REPRICING = 1, KOZEMPIL_BILLING = 2, KOZEMPIL_CLOSING = 3 };
+enum { KOZEMPIL_BANKED = 0, KOZEMPIL_BRIDGE = 1 };
+enum { KOZEMPIL_HOME = 0, KOZEMPIL_BUSINESS = 1 };
+enum { KOZEMPIL_FRESH = 0, KOZEMPIL_OPEN = 1, KOZEMPIL_CLOSED = 2 };
+
+/* Places of a call. Numbers that its kind doesn't name aren't read; write 0. */
+enum {
+    KOZEMPIL_CALL_KIND = 0,
+
+    /* of an opening */
+    KOZEMPIL_CALL_RIDER = 1,
+    KOZEMPIL_CALL_CLASS = 2,
+    KOZEMPIL_CALL_NAMEPLATE = 3,
+    KOZEMPIL_CALL_LIMIT = 4,            /* demand limit */
+    KOZEMPIL_CALL_ASSISTED = 5,
+    KOZEMPIL_CALL_FIRST_MONTH = 17,
+
+    /* of an opening and a repricing: the price list */
+    KOZEMPIL_CALL_ENERGY = 6,           /* by period */
+    KOZEMPIL_CALL_DEMAND = 10,
+    KOZEMPIL_CALL_STANDBY = 11,
+    KOZEMPIL_CALL_BYPASS = 12,
+    KOZEMPIL_CALL_CREDIT = 13,
+    KOZEMPIL_CALL_DISTRIBUTION = 14,
+    KOZEMPIL_CALL_BASIC = 15,
+    KOZEMPIL_CALL_MINIMUM = 16,
+
+    /* of a billing */
+    KOZEMPIL_CALL_MONTH = 1,
+    KOZEMPIL_CALL_DELIVERED = 2,        /* how many delivered readings it takes */
+    KOZEMPIL_CALL_RECEIVED = 3,         /* how many received readings it takes */
+    KOZEMPIL_CALL_CRITICAL_DAYS = 4     /* bit d - 1 is set for day d, bit 0 being the lowest */
+};
+
+/* Places of an answer. What a call doesn't return is 0, and so is everything but the number after a refusal. */
+enum {
+    KOZEMPIL_ANSWER_NUMBER = 0,
+
+    /* of a billing, each by period */
+    KOZEMPIL_ANSWER_FORFEITED = 1,
+    KOZEMPIL_ANSWER_DELIVERED = 5,
+    KOZEMPIL_ANSWER_EXPORTED = 9,
+    KOZEMPIL_ANSWER_OWN = 13,
+    KOZEMPIL_ANSWER_CREDIT = 17,
+    KOZEMPIL_ANSWER_NEED = 21,
+    KOZEMPIL_ANSWER_MOVED_OUT = 25,
+    KOZEMPIL_ANSWER_MOVED_IN = 29,
+    KOZEMPIL_ANSWER_BILLED = 33,
+    KOZEMPIL_ANSWER_LEFT = 37,
+    KOZEMPIL_ANSWER_PAID = 41,
+
+    /* of a billing, in cents */
+    KOZEMPIL_ANSWER_ENERGY = 45,
+    KOZEMPIL_ANSWER_DEMAND = 46,
+    KOZEMPIL_ANSWER_STANDBY = 47,
+    KOZEMPIL_ANSWER_BYPASS = 48,
+    KOZEMPIL_ANSWER_SHORTFALL = 49,
+    KOZEMPIL_ANSWER_GROSS = 50,
+    KOZEMPIL_ANSWER_GRANTED = 51,
+    KOZEMPIL_ANSWER_USED = 52,
+    KOZEMPIL_ANSWER_DUE = 53,
+    KOZEMPIL_ANSWER_STANDING = 54,      /* after the bill */
+
+    /* of a closing */
+    KOZEMPIL_ANSWER_CLOSING_FORFEITED = 55, /* by period */
+    KOZEMPIL_ANSWER_REFUNDED = 59
+};
+
+/* Places of an account. */
+enum {
+    KOZEMPIL_ACCOUNT_STAGE = 0,
+    KOZEMPIL_ACCOUNT_RIDER = 1,
+    KOZEMPIL_ACCOUNT_CLASS = 2,
+    KOZEMPIL_ACCOUNT_NAMEPLATE = 3,
+    KOZEMPIL_ACCOUNT_LIMIT = 4,
+    KOZEMPIL_ACCOUNT_ASSISTED = 5,
+    KOZEMPIL_ACCOUNT_ENERGY = 6,        /* by period */
+    KOZEMPIL_ACCOUNT_DEMAND = 10,
+    KOZEMPIL_ACCOUNT_STANDBY = 11,
+    KOZEMPIL_ACCOUNT_BYPASS = 12,
+    KOZEMPIL_ACCOUNT_CREDIT = 13,
+    KOZEMPIL_ACCOUNT_DISTRIBUTION = 14,
+    KOZEMPIL_ACCOUNT_BASIC = 15,
+    KOZEMPIL_ACCOUNT_MINIMUM = 16,
+    KOZEMPIL_ACCOUNT_NEXT = 17,         /* next month */
+    KOZEMPIL_ACCOUNT_CARRIED = 18,      /* by period */
+    KOZEMPIL_ACCOUNT_STANDING = 22
+};
+
+/* What became of a list of calls: how many were answered, and for how many of them the whole answer was written. */
 struct kozempil_counts {
     uint64_t answered;
     uint64_t written;
 };
 
-/* Answers a list of calls from the fresh account, and writes the account after it.
+/* Answers a list of calls from the fresh account, in which every number is 0, and writes the account after it.
  *
- * Each buffer is a pointer and its length in elements. Those that are written, answers and account, may overlap no other.
- *
- * calls: 18 numbers for each call.
- *
- *                opening               repricing   billing                        closing
- *     0          0                     1           2                              3
- *     1          rider: 0 banked,      -           month                          -
- *                1 bridge
- *     2          class: 0 home,        -           number of delivered readings   -
- *                1 business
- *     3          nameplate             -           number of received readings    -
- *     4          demand limit          -           critical days: bit d - 1 is    -
- *                                                  set for day d
- *     5          assisted: 0 no,       -           -                              -
- *                1 yes
- *     6 to 9     energy, by period     the same    -                              -
- *     10         demand                the same    -                              -
- *     11         standby               the same    -                              -
- *     12         bypass                the same    -                              -
- *     13         credit                the same    -                              -
- *     14         distribution          the same    -                              -
- *     15         basic                 the same    -                              -
- *     16         minimum               the same    -                              -
- *     17         first month           -           -                              -
- *
- *     Write 0 where the table has "-"; it isn't read. The list ends at the first record that is no call: an unknown kind, rider, class
- *     or assisted, or a month or critical days of more than 32 bits. Fewer than 18 numbers at the end are no call.
- *
- * delivered, received: the readings of all billings in Wh, one billing after the other. Where fewer are lent than a billing says, it
- *     takes what is left.
- *
- * answers: 60 numbers for each call, in the order of the calls.
- *
- *     0          0, or the number of the refusal; after a refusal all else is 0
- *     1 to 44    of a billing, four by period of each: 1 forfeited, 5 delivered, 9 exported, 13 own, 17 credit, 21 need, 25 moved out,
- *                29 moved in, 33 billed, 37 left, 41 paid
- *     45 to 54   of a billing: 45 energy, 46 demand, 47 standby, 48 bypass, 49 shortfall, 50 gross, 51 granted, 52 used, 53 due,
- *                54 standing after the bill
- *     55 to 59   of a closing: 55 forfeited, four by period, 59 refunded
- *
- *     What a call doesn't return is 0. Numbers that don't fit the buffer are left out, and the rest of a longer one stays as it was; all
- *     calls are answered in either case.
- *
- * account: 23 numbers, after the last call; too short or longer, as with answers.
- *
- *     0          stage: 0 fresh, 1 open, 2 closed
- *     1 to 5     rider, class, nameplate, demand limit, assisted
- *     6 to 16    price list, as in a call
- *     17         next month
- *     18 to 21   carried, four by period
- *     22         standing
+ * calls: KOZEMPIL_CALL numbers for each call. The list ends at the first record that is no call (an unknown kind, rider, class or assisted, or a
+ *     month or critical days of more than 32 bits), and fewer than KOZEMPIL_CALL numbers at the end are none: compare `answered` with how many
+ *     you lent.
+ * delivered, received: the readings of all billings, one billing after the other. Where fewer are lent than a billing says, it takes
+ *     what is left.
+ * answers: KOZEMPIL_ANSWER numbers for each call, in the order of the calls. Where they don't all fit, all calls are answered all the same, and
+ *     `written` is less than `answered`.
+ * account: KOZEMPIL_ACCOUNT numbers, after the last call that was answered.
  */
 struct kozempil_counts kozempil_run(
     const uint64_t *calls, size_t calls_len,
@@ -95,17 +178,15 @@ struct kozempil_counts kozempil_run(
     uint64_t *answers, size_t answers_len,
     uint64_t *account, size_t account_len);
 
-/* Answers one call on any account, and writes the account after it: 1, or 0 where the numbers are no account or no call, and then nothing
- * is written. An account that can't arise from a fresh one is refused by number 3 or answered like any other, as the table of refusals says.
+/* Answers one call on any account, and writes the account after it. Returns 1, or 0 where the numbers are no account or no call, and then
+ * nothing is written. An account that can't arise from a fresh one is refused as closed or answered like any other, as the table of refusals
+ * says.
  *
- * account: the 23 numbers above. They are no account where there are more or fewer of them, or where a stage, rider, class or assisted is
+ * account: KOZEMPIL_ACCOUNT numbers. They are no account where there are more or fewer of them, or where a stage, rider, class or assisted is
  *     unknown, or the next month has more than 32 bits.
- *
- * call: the 18 numbers above, no more and no fewer.
- *
- * delivered, received: the readings of a billing. All that are lent are taken; numbers 2 and 3 of the call aren't read.
- *
- * answer, after: 60 and 23 numbers; too short or longer, as above. They may overlap no other buffer.
+ * call: KOZEMPIL_CALL numbers, no more and no fewer.
+ * delivered, received: the readings of a billing. All that are lent are taken; how many the call says isn't read.
+ * answer, after: KOZEMPIL_ANSWER and KOZEMPIL_ACCOUNT numbers.
  */
 uint32_t kozempil_call(
     const uint64_t *account, size_t account_len,
@@ -115,19 +196,26 @@ uint32_t kozempil_call(
     uint64_t *answer, size_t answer_len,
     uint64_t *after, size_t after_len);
 
-/* Writes where the readings of one day are in a register: 96 readings, or none where the month is above 1199, the day isn't in the month
+/* How many readings a register of a month has: 96 for each of its days. */
+uint64_t kozempil_register_length(uint32_t month);
+
+/* Writes where the readings of one day are in a register. There are none where the month is above the last one, the day isn't in the month
  * (1 is its first), a register has another length than the month's, or the register number isn't 0 (delivered) or 1 (received).
  *
- * part: 2 numbers, too short or longer, as above. It may overlap no other buffer.
- *
- *     0          start: the readings before it in the register named; 0 where there are none
- *     1          length
+ * part: 2 numbers: how many readings of the register named come before it, and how many it has; 0 and 0 where there are none.
  */
 void kozempil_day_view(
     const uint32_t *delivered, size_t delivered_len,
     const uint32_t *received, size_t received_len,
     uint32_t month, uint32_t day, uint32_t number,
     uint64_t *part, size_t part_len);
+
+/* Writes what the program `statement` prints for a whole input, and returns how many bytes that is: where it is more than text_len, the front
+ * of it was written. No zero byte is added. docs/STATEMENT.md says what to write and what is printed.
+ */
+uint64_t kozempil_statement(
+    const uint8_t *input, size_t input_len,
+    uint8_t *text, size_t text_len);
 
 #ifdef __cplusplus
 }

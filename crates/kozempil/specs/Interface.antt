@@ -20,6 +20,10 @@ use Rattle.balances.specs.Calls.{Call, answersOf, lastOf}
 use Rattle.ledger.specs.Encoding.{rowsOf}
 use Rattle.kozempil.specs.declared.Counts.{Counts}
 
+-- Our rule: the layout of calls, answers and accounts has a version, which rises when a place is added or moved.
+abbrev pub layoutVersion : ℕ
+layoutVersion = 1
+
 -- Stages as numbers.
 abbrev pub stageCode : Stage → ℕ
 stageCode Fresh = 0

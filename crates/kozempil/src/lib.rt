@@ -4,14 +4,20 @@ ghost use mathlib.Core.Bool.{cond};
 ghost use Prim.Native.Nat.{_<_, _^_};
 ghost use lib.ListN.{length, getD};
 ghost use lib.Seq.{sets};
+ghost use Rattle.calendar.specs.Calendar.{monthLength};
 ghost use Rattle.registers.specs.DayView.{viewOf};
 ghost use Rattle.records.specs.Rows.{rowOf};
 ghost use Rattle.balances.specs.Calls.{answerOf, accountAfter};
 ghost use Rattle.ledger.specs.Encoding.{callOf, callsIn};
-ghost use Rattle.kozempil.specs.Interface.{stageCode, stageAt, nextPlace, accountLength, accountRow};
+ghost use Rattle.lines.specs.Statement.{statementOf};
+ghost use Rattle.whole.specs.Whole.{lengthOf};
+ghost use Rattle.kozempil.specs.Interface.{layoutVersion, stageCode, stageAt, nextPlace, accountLength, accountRow};
 ghost use Rattle.kozempil.specs.Interface.{isAccount, accountAt, ListAnswered, isAnswered, partNumbers};
 use account::Account;
 use account::Stage;
+
+// Rises when a place of a call, an answer or an account is added or moved.
+const LAYOUT: u32 = 1;
 
 // The row of an account: stage, terms, price list, next month, carried by period, standing money.
 const STAGE_PLACE: usize = 0;
@@ -191,4 +197,30 @@ pub extern "C" fn kozempil_day_view(
     let count = calendar::day_length(month, day) as u64;
     let numbers = [start, count];
     records::write_numbers(part, 0, &numbers[..]);
+}
+
+// How many readings a register of a month has.
+#[no_mangle]
+pub extern "C" fn kozempil_register_length(month: u32) -> u64
+    ensures { λ r. ⌜ r ≡ monthLength month ⌝ }
+{
+    calendar::month_length(month) as u64
+}
+
+// The version of the layout of calls, answers and accounts.
+#[no_mangle]
+pub extern "C" fn kozempil_layout() -> u32
+    ensures { λ r. ⌜ r ≡ layoutVersion ⌝ }
+{
+    LAYOUT
+}
+
+// Writes the statement of an input to the front of a text, as much of it as fits, and says how long the whole is.
+#[no_mangle]
+pub extern "C" fn kozempil_statement(input: &[u8], text: &mut [u8]) -> u64
+    ensures written { λ r. ⌜ now (text .exit) ≡ sets (now (text .entry)) 0 (statementOf (now (input .entry))) ⌝ }
+    ensures long { λ r. ⌜ r ≡ lengthOf (statementOf (now (input .entry))) ⌝ }
+    ensures unaltered { λ r. ⌜ now (input .exit) ≡ now (input .entry) ⌝ }
+{
+    whole::statement_of(input, text)
 }
