@@ -15,16 +15,6 @@ use Rattle.session.specs.Taking.{lineBytes}
 use Rattle.lines.proofs.Lengths.{text-fits}
 use Rattle.lines.proofs.Streams.{newline-text, other-state, other-text, kept-again}
 
--- Where the first newline stands.
-pub place-within : (l : List ℕ) → placeOf 10 l ≤ length l
-unfolding placeOf
-place-within [] = omega arith
-place-within (b ∷ l) = by (eqb b 10) (place-within l)
-  where
-    by : (t : Bool) → placeOf 10 l ≤ length l → cond t zero (suc (placeOf 10 l)) ≤ length (b ∷ l)
-    by true h = omega arith
-    by false h = omega arith
-
 -- The bytes of a line end with the first newline, or with the last byte.
 pub bytes-all : (l : List ℕ) → placeOf 10 l ≡ length l → lineBytes l ≡ length l
 unfolding placeOf lineBytes

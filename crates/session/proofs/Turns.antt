@@ -14,10 +14,11 @@ use Rattle.progress.specs.Progressing.{Reads}
 use Rattle.lines.specs.Feeding.{SoFar, afterByte, byteText, after, printed, Registers, withReadings, registersAfter}
 use Rattle.session.specs.Sessions.{Lent}
 use Rattle.session.specs.Taking.{keptOf, lineBytes, TakesLine}
+use Rattle.progress.proofs.RunLines.{place-within}
 use Rattle.lines.proofs.Buffers.{cut-registers}
 use Rattle.lines.proofs.Streams.{cut-text, cut-state, newline-state, newline-text, other-state}
 use Rattle.session.proofs.Keeping.{kept-front}
-use Rattle.session.proofs.Taking.{place-within, bytes-all, bytes-place, newline-last, front-text, front-state}
+use Rattle.session.proofs.Taking.{bytes-all, bytes-place, newline-last, front-text, front-state}
 
 abbrev holding : List ℕ → State → SoFar
 holding l s = record { line = l; state = s }

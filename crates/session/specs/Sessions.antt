@@ -44,7 +44,8 @@ lentAfter x bytes b = record { line = sets (b .line) 0 (after x bytes .line); re
 abbrev pub lentAtEnd : SoFar → Lent → Lent
 lentAtEnd x b = record { line = b .line; registers = withReadings (stateAtEnd x) (b .registers) }
 
--- Feeding a session: how many bytes of the input it takes, what it stands for then, and what it writes from the front of the buffer for texts.
+-- Feeding a session: how many bytes of the input it takes, what it stands for and what the buffers hold then, and what it writes from the front
+-- of the buffer for texts.
 pub record Feeds
     (x : Session) (b : Lent) (input : List ℕ) (out : List ℕ) (taken : ℕ) (y : Session) (c : Lent) (written : ℕ) (outLater : List ℕ) : Type 0 where
   pub takes : taken ≡ cond (leb leastRoom (length out)) (takenOf (length out) (soFarOf x b) input) 0
@@ -54,7 +55,7 @@ pub record Feeds
   pub inside : taken ≤ length input
   pub fits : written ≤ length out
 
--- The end of the input: what is written from the front of the buffer for texts.
+-- The end of the input: what the buffers hold then, and what is written from the front of the buffer for texts.
 pub record Finishes (x : Session) (b : Lent) (out : List ℕ) (c : Lent) (written : ℕ) (outLater : List ℕ) : Type 0 where
   pub buffers : c ≡ cond (leb leastRoom (length out)) (lentAtEnd (soFarOf x b) b) b
   pub bytes : outLater ≡ cond (leb leastRoom (length out)) (sets out 0 (ending (soFarOf x b))) out

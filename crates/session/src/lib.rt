@@ -86,7 +86,8 @@ fn read_held(
     progress.read_line(&line[..held], delivered, received, out, at)
 }
 
-// Takes the bytes up to the first newline, and reads the line that it ends; or takes all bytes, where there is none.
+// Takes the bytes up to the first newline, and reads the line that it ends; or takes all bytes, where there is none. They are joined with those
+// held in a copy of the buffer, which is stored only where the line isn't complete.
 fn take_line(
     session: Session,
     line: &mut [u8; 51],

@@ -5,7 +5,7 @@ use native.Mathlib.Omega.{arith}
 use lib.ListN.{length-take}
 use Rattle.progress.specs.Progressing.{stateOf}
 use Rattle.lines.proofs.Buffers.{readings-same}
-use Rattle.session.proofs.Taking.{place-within}
+use Rattle.progress.proofs.RunLines.{place-within}
 use Rattle.session.proofs.Turns.{kept-within, all-held, line-ended}
 use Rattle.session.proofs.take_line.Statement.{statement}
 use Rattle.session.proofs.take_line.Tie as tie
