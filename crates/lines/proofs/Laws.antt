@@ -6,15 +6,13 @@ use Prim.Native.Nat.{ℕ, _+_, _≤_, _<_}
 use borrow.Author.Tests.{lt-ltb, le-ltb, eq-eqb, ne-eqb}
 use lib.Dec.{eqb}
 use lib.ListN.{length}
-use lib.Seq.{sets}
 use Rattle.account.specs.declared.BillingReply.{BillingReply}
 use Rattle.numerals.specs.declared.Numbers.{Numbers}
 use Rattle.grammar.specs.Grammar.{openingLine, billLine, criticalLine, runLine}
 use Rattle.numerals.specs.Reading.{numbersAs}
 use Rattle.printing.specs.Printing.{billText, lineText}
 use Rattle.lines.specs.Statement.{State, state, outcome, nextNumber, fault, opened, openingRead, begun, billRead, withCritical, criticalRead}
-use Rattle.lines.specs.Opening.{placeOfLine}
-use Rattle.lines.specs.Statement.{withRun, runRead, monthReply, monthEnd, runOrBillRead, expectedRead, atEnd}
+use Rattle.lines.specs.Statement.{withLine, withRun, runRead, monthReply, monthEnd, runOrBillRead, expectedRead, atEnd}
 use Rattle.lines.specs.Statement.{hasStopped}
 
 -- A line gives no numbers just where none were read.
@@ -45,12 +43,11 @@ module _ (v : List ℕ) (x : Numbers) (e : x ≡ numbersAs v) (s : State) where
   unfolding openingRead
   opening-no h = rw (none-read v x e h)
 
-  pub opening-more : (x .count ≡ 0 → ⊥) → s .expected < 13
-      → openingRead v s ≡ outcome [] (state (s .lines) (s .expected + 1) (sets (s .values) (placeOfLine (s .expected)) v) (s .account) (s .entered))
+  pub opening-more : (x .count ≡ 0 → ⊥) → s .expected < 13 → openingRead v s ≡ outcome [] (withLine v s)
   unfolding openingRead
   opening-more h k = rw (some-read v x e h, lt-ltb (s .expected) 13 k)
 
-  pub opening-last : (x .count ≡ 0 → ⊥) → 13 ≤ s .expected → openingRead v s ≡ opened (sets (s .values) (placeOfLine (s .expected)) v) s
+  pub opening-last : (x .count ≡ 0 → ⊥) → 13 ≤ s .expected → openingRead v s ≡ opened (withLine v s)
   unfolding openingRead
   opening-last h k = rw (some-read v x e h, le-ltb (s .expected) 13 k)
 

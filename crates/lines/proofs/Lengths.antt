@@ -56,9 +56,9 @@ stop-fits : (s : State) → Fits (fault s)
 unfolding fault
 stop-fits s = record { long = omega (arith, line-fits (s .lines)) }
 
-opened-fits : (xs : List ℕ) (s : State) → Fits (opened xs s)
+opened-fits : (s : State) → Fits (opened s)
 unfolding opened
-opened-fits xs s = let h : length (opened xs s .text) ≤ 32 = open-fits _ in record { long = omega arith }
+opened-fits s = let h : length (opened s .text) ≤ 32 = open-fits _ in record { long = omega arith }
 
 month-fits : (s : State) → length (monthEnd s .text) ≤ 1024
 unfolding monthEnd
@@ -66,7 +66,7 @@ month-fits s = let h : length (monthEnd s .text) ≤ 1024 = bill-fits _ _ _ in o
 
 opening-fits : (v : List ℕ) (s : State) → Fits (openingRead v s)
 unfolding openingRead
-opening-fits v s = either (isUnreadable v) (stop-fits s) (either (ltb (s .expected) 13) (none _) (opened-fits _ s))
+opening-fits v s = either (isUnreadable v) (stop-fits s) (either (ltb (s .expected) 13) (none _) (opened-fits _))
 
 month-line-fits : (v : List ℕ) (s : State) → Fits (billRead v s)
 unfolding billRead

@@ -41,8 +41,8 @@ numberOfLine xs n = numberAt xs n 1
 abbrev pub openingMonth : List ℕ → ℕ
 openingMonth xs = numberOfLine xs 1
 
--- "Class is `home` or `business`, rider `banked` or `bridge`, assisted `yes` or `no`": of two words `Grammar` gives 0 for the first, 1 for the
--- second.
+-- "Class is `home` or `business`, rider `banked` or `bridge`, assisted `yes` or `no`": `Grammar` gives 0 for `banked`, `home` and `no`, and 1
+-- for the other word.
 abbrev pub riderOf : ℕ → Rider
 riderOf word = cond (eqb word 0) Banked Bridge
 
@@ -50,7 +50,7 @@ abbrev pub classOf : ℕ → Class
 classOf word = cond (eqb word 0) Home Business
 
 -- `rider`, `class`, `nameplate`, `limit`, `assisted`
-abbrev pub openingTerms : List ℕ → Terms
+unfoldable pub openingTerms : List ℕ → Terms
 openingTerms xs =
     record {
       rider = riderOf (numberOfLine xs 2);
@@ -61,7 +61,7 @@ openingTerms xs =
     }
 
 -- `prices`, `demand`, `standby`, `bypass`, `credit`, `distribution`, `basic`, `minimum`
-abbrev pub openingPrices : List ℕ → PriceList
+unfoldable pub openingPrices : List ℕ → PriceList
 openingPrices xs =
     record {
       energy =

@@ -24,7 +24,8 @@ pub record Month : Type 0 where
 abbrev pub monthOf : ℕ → ℕ → List ℕ → List ℕ → Month
 monthOf m x d e = record { month = m; critical = x; delivered = d; received = e }
 
--- What has been read: how many lines, which line is expected next, the opening's numbers (those not read yet are 0), the account, and the month that is being read.
+-- What has been read: how many lines, which line is expected next, the opening's numbers ("Opening"; those not read yet are 0), the account,
+-- and the month that is being read.
 pub record State : Type 0 where
   pub lines : ℕ
   pub expected : ℕ
@@ -84,18 +85,21 @@ counted s = state (nextNumber (s .lines)) (s .expected) (s .values) (s .account)
 unfoldable pub fault : State → Outcome
 fault s = outcome (lineText (s .lines)) (state (s .lines) stopped (s .values) (s .account) (s .entered))
 
--- "It prints the opening's number once line 14 is read"; xs are the opening's numbers.
-unfoldable pub opened : List ℕ → State → Outcome
-opened xs s =
-    let r : Reply = openingReply (s .account) (openingTerms xs) (openingPrices xs) (openingMonth xs) in
-    outcome (openText (r .number)) (state (s .lines) billExpected xs (r .account) (s .entered))
+-- A line of the opening: its numbers are put where they belong, and the next line is expected, after line 14 a bill line.
+abbrev pub withLine : List ℕ → State → State
+withLine v s = state (s .lines) (s .expected + 1) (sets (s .values) (placeOfLine (s .expected)) v) (s .account) (s .entered)
 
--- A line of the opening.
+-- "It prints the opening's number once line 14 is read"
+abbrev pub accountReply : Account → List ℕ → Reply
+accountReply a xs = openingReply a (openingTerms xs) (openingPrices xs) (openingMonth xs)
+
+unfoldable pub opened : State → Outcome
+opened s =
+    let r : Reply = accountReply (s .account) (s .values) in
+    outcome (openText (r .number)) (state (s .lines) (s .expected) (s .values) (r .account) (s .entered))
+
 unfoldable pub openingRead : List ℕ → State → Outcome
-openingRead v s =
-    let xs : List ℕ = sets (s .values) (placeOfLine (s .expected)) v in
-    cond (isUnreadable v) (fault s)
-    (cond (ltb (s .expected) 13) (outcome [] (state (s .lines) (s .expected + 1) xs (s .account) (s .entered))) (opened xs s))
+openingRead v s = cond (isUnreadable v) (fault s) (cond (ltb (s .expected) 13) (outcome [] (withLine v s)) (opened (withLine v s)))
 
 -- A month begins with its bill line; it has no readings yet.
 abbrev pub begun : ℕ → State → State

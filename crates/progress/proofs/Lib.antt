@@ -1,4 +1,5 @@
 mod Filling
 mod Lines
+mod Opening
 mod Runs
 pub mod RunLines

@@ -1,32 +1,21 @@
 -- What the progress promises of a line, over plain values.
 use mathlib.Core.Path.{_≡_, refl, sym, _∙_, ap, subst}
-use mathlib.Core.Logic.{⊎-elim}
 use mathlib.Core.Bool.{Bool, true, false, cond}
-use mathlib.Core.List.{List, [], _∷_}
-use Prim.Native.Nat.{ℕ, _+_, _≤_, _<_, min}
+use mathlib.Core.List.{List, []}
+use Prim.Native.Nat.{ℕ, _+_, _≤_, min}
 use native.Mathlib.Omega.{arith}
 use borrow.Author.Tests.{leb-true, leb-false}
-use lib.Dec.{eqb, leb, ltb, eqb→eq, ltb→lt}
-use lib.ListN.{length, getD, set, take, length-take}
-use lib.Seq.{take-all, sets}
-use Rattle.calendar.proofs.Below.{below}
-use Rattle.tariff.specs.declared.Terms.{Terms}
-use Rattle.tariff.specs.declared.PriceList.{PriceList}
-use Rattle.account.specs.declared.Reply.{Reply}
-use Rattle.account.specs.Account.{openingReply}
+use lib.Dec.{leb}
+use lib.ListN.{length, take, length-take}
+use lib.Seq.{take-all}
 use Rattle.account.specs.declared.BillingReply.{BillingReply}
-use Rattle.numerals.specs.declared.Numbers.{Numbers}
-use Rattle.grammar.specs.Grammar.{openingLine}
-use Rattle.numerals.specs.Reading.{numbersAs}
-use Rattle.printing.specs.Printing.{billText, openText}
+use Rattle.printing.specs.Printing.{billText}
 use Rattle.printing.specs.Writing.{hasRoom, Wrote, Put}
-use Rattle.lines.specs.Opening.{placeOfLine, widthOfLine, openingMonth, openingTerms, openingPrices}
-use Rattle.lines.specs.Statement.{State, state, Outcome, outcome, opened, begun}
+use Rattle.lines.specs.Statement.{State, state, Outcome, outcome, begun}
 use Rattle.lines.specs.Statement.{monthReply, monthEnd, runOrBillRead, counted, expectedRead, lineRead}
 use Rattle.lines.specs.Feeding.{Registers, withReadings}
 use Rattle.progress.specs.Progressing.{Reads}
-use Rattle.progress.specs.Ending.{Ends, EndsWith, valuesWith}
-use Rattle.lines.proofs.Opening.{width-within, one-number, line-gives}
+use Rattle.progress.specs.Ending.{Ends, EndsWith}
 
 -- As many readings as there are.
 pub least-long : (l : List ℕ) (n r : ℕ) → r ≡ min n (length l) → r ≡ length (take r l)
@@ -84,56 +73,6 @@ month-ends o i p j s r e h w =
           puts o i (billText (s .entered .month) (monthReply s .number) (monthReply s .bill)) p j h
           (subst (λ (q : BillingReply). Put o i (billText (s .entered .month) (q .number) (q .bill)) p j) e w);
     }
-
--- The account is opened.
-pub account-opens : (o : List ℕ) (i : ℕ) (p : List ℕ) (j : ℕ) (s : State) (xs : List ℕ) (t : Terms) (l : PriceList) (r : Reply)
-    → t ≡ openingTerms xs → l ≡ openingPrices xs → r ≡ openingReply (s .account) t l (openingMonth xs) → hasRoom o i ≡ true
-    → Put o i (openText (r .number)) p j → Ends o i (opened xs s) (state (s .lines) 14 xs (r .account) (s .entered)) p j
-unfolding opened
-account-opens o i p j s xs t l r et el er h w =
-    let q : r ≡ openingReply (s .account) (openingTerms xs) (openingPrices xs) (openingMonth xs) = er ∙ rw (et, el) in
-    record {
-      state = ap (λ (y : Reply). state (s .lines) 14 xs (y .account) (s .entered)) q;
-      text = puts o i _ p j h (subst (λ (y : Reply). Put o i (openText (y .number)) p j) q w);
-    }
-
--- The table of the code has the place of each line, computed line by line.
-abbrev places : List ℕ
-places = 0 ∷ 1 ∷ 2 ∷ 3 ∷ 4 ∷ 5 ∷ 6 ∷ 10 ∷ 11 ∷ 12 ∷ 13 ∷ 14 ∷ 15 ∷ 16 ∷ []
-
-pub place-is : (k : ℕ) → k < 14 → getD places k 0 ≡ placeOfLine k
-place-is k h = eqb→eq _ _ (below (λ k. eqb (getD places k 0) (placeOfLine k)) 14 tt k h)
-
-pub place-within : (k : ℕ) → k < 14 → getD places k 0 < 17
-place-within k h = ltb→lt _ _ (below (λ k. ltb (getD places k 0) 17) 14 tt k h)
-
--- Four numbers, or the first one, are put where the definition puts them.
-module _ (xs : List ℕ) (k : ℕ) (v : Numbers) where
-  pub four-put : k ≡ 6 → sets xs 6 (v .first ∷ v .second ∷ v .third ∷ v .fourth ∷ []) ≡ valuesWith xs k v
-  unfolding valuesWith
-  four-put e = rw e
-
-  pub one-put : k < 14 → (k ≡ 6 → ⊥) → set xs (getD places k 0) (v .first) ≡ valuesWith xs k v
-  unfolding valuesWith
-  one-put h n = rw (one-number k h n, place-is k h)
-
--- As many numbers as there are of up to four.
-front-is : (v : List ℕ) → length v ≤ 4 → take (length v) (getD v 0 0 ∷ getD v 1 0 ∷ getD v 2 0 ∷ getD v 3 0 ∷ []) ≡ v
-front-is [] h = refl
-front-is (x ∷ []) h = refl
-front-is (x ∷ y ∷ []) h = refl
-front-is (x ∷ y ∷ z ∷ []) h = refl
-front-is (x ∷ y ∷ z ∷ w ∷ []) h = refl
-front-is (x ∷ y ∷ z ∷ w ∷ u ∷ v) h = absurd (omega (arith, h))
-
--- The numbers of a readable line of the opening are put where the definition puts them.
-pub values-are : (xs : List ℕ) (k : ℕ) (l : List ℕ) (x : Numbers) → k < 14 → x ≡ numbersAs (openingLine k l) → (x .count ≡ 0 → ⊥)
-    → valuesWith xs k x ≡ sets xs (placeOfLine k) (openingLine k l)
-unfolding valuesWith
-values-are xs k l x h e some =
-    let n : x .count ≡ length (openingLine k l) = ap (λ (y : Numbers). y .count) e in
-    let wide : length (openingLine k l) ≡ widthOfLine k = ⊎-elim (λ q. absurd (some (n ∙ q))) (λ q. q) (line-gives k l h) in
-    rw (e, ← wide, front-is (openingLine k l) (omega (arith, wide, width-within k h)))
 
 -- Where a text fits, a line is read.
 pub reads-some : (o : List ℕ) (i : ℕ) (r : Registers) (s : State) (step : Outcome) (t : State) (q : Registers) (p : List ℕ) (j : ℕ) → hasRoom o i ≡ true

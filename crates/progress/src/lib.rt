@@ -7,13 +7,14 @@ ghost use lib.Seq.{sets};
 ghost use Rattle.grammar.specs.Grammar.{openingLine, billLine, criticalLine, runLine};
 ghost use Rattle.numerals.specs.Reading.{numbersAs};
 ghost use Rattle.printing.specs.Writing.{hasRoom};
-ghost use Rattle.lines.specs.Opening.{riderOf, classOf, openingTerms, openingPrices};
-ghost use Rattle.lines.specs.Statement.{start, nextNumber, counted, begun, fault, monthReply, opened, openingRead, billRead, criticalRead, runRead, monthEnd, runOrBillRead, expectedRead, lineRead};
+ghost use Rattle.lines.specs.Opening.{openingTerms, openingPrices};
+ghost use Rattle.lines.specs.Statement.{start, nextNumber, counted, begun, fault, monthReply, accountReply, opened, openingRead, billRead, criticalRead, runRead, monthEnd, runOrBillRead, expectedRead, lineRead};
 ghost use Rattle.lines.specs.Feeding.{registersOf};
 ghost use Rattle.progress.specs.Progressing.{stateOf, StandsFor, SaysStopped, Reads, RunsRead, Finishes};
 ghost use Rattle.progress.specs.Ending.{valuesWith, StandsAs, Ends, EndsAs, EndsWith, runAt, StandsAfter};
 use account::Account;
 use account::BillingReply;
+use account::Reply;
 use hours::ByPeriod;
 use numerals::Numbers;
 use tariff::Class;
@@ -65,6 +66,9 @@ const BASIC: usize = DISTRIBUTION + 1;
 
 const MINIMUM: usize = BASIC + 1;
 
+// How many they are.
+const OPENING_NUMBERS: usize = MINIMUM + 1;
+
 // Where the numbers of each line begin.
 const PLACES: [usize; 14] = [
     OPENS,
@@ -83,7 +87,7 @@ const PLACES: [usize; 14] = [
     MINIMUM,
 ];
 
-// What is expected where the prices are.
+// What is expected where the line of four prices is.
 const PRICES_EXPECTED: u32 = 6;
 
 const NEWLINE: u8 = 10;
@@ -95,7 +99,7 @@ const MOST_READINGS: usize = 2976;
 pub struct Progress {
     lines: u64,
     expected: u32,
-    values: [u32; 17],
+    values: [u32; OPENING_NUMBERS],
     account: Account,
     month: u32,
     critical: u32,
@@ -155,7 +159,11 @@ fn fault_at(progress: Progress, out: &mut [u8], at: usize) -> Ended
 }
 
 // The opening's numbers with those of one line more.
-fn with_values(values: [u32; 17], expected: u32, numbers: Numbers) -> [u32; 17]
+fn with_values(
+    values: [u32; OPENING_NUMBERS],
+    expected: u32,
+    numbers: Numbers,
+) -> [u32; OPENING_NUMBERS]
     requires { ⌜ expected < 14 ⌝ }
     ensures { λ r. ⌜ r ≡ valuesWith values expected numbers ⌝ }
 {
@@ -172,34 +180,20 @@ fn with_values(values: [u32; 17], expected: u32, numbers: Numbers) -> [u32; 17]
     next
 }
 
-// The rider that a word names.
-fn rider_of(word: u32) -> Rider
-    ensures { λ r. ⌜ r ≡ riderOf word ⌝ }
+// The terms of an opening.
+fn terms_of(values: [u32; OPENING_NUMBERS]) -> Terms
+    ensures { λ r. ⌜ r ≡ openingTerms values ⌝ }
 {
-    if word == 0 {
+    let rider = if values[RIDER] == 0 {
         Rider::Banked
     } else {
         Rider::Bridge
-    }
-}
-
-// The class that a word names.
-fn class_of(word: u32) -> Class
-    ensures { λ r. ⌜ r ≡ classOf word ⌝ }
-{
-    if word == 0 {
+    };
+    let class = if values[CLASS] == 0 {
         Class::Home
     } else {
         Class::Business
-    }
-}
-
-// The terms of an opening.
-fn terms_of(values: [u32; 17]) -> Terms
-    ensures { λ r. ⌜ r ≡ openingTerms values ⌝ }
-{
-    let rider = rider_of(values[RIDER]);
-    let class = class_of(values[CLASS]);
+    };
     Terms {
         rider,
         class,
@@ -210,7 +204,7 @@ fn terms_of(values: [u32; 17]) -> Terms
 }
 
 // The price list of an opening.
-fn prices_of(values: [u32; 17]) -> PriceList
+fn prices_of(values: [u32; OPENING_NUMBERS]) -> PriceList
     ensures { λ r. ⌜ r ≡ openingPrices values ⌝ }
 {
     let energy = ByPeriod {
@@ -231,23 +225,28 @@ fn prices_of(values: [u32; 17]) -> PriceList
     }
 }
 
-// The account is opened.
-fn open(progress: Progress, values: [u32; 17], out: &mut [u8], at: usize) -> Ended
-    requires { ⌜ hasRoom (now out) at ≡ true ⌝ }
-    ensures { λ r. ⌜ EndsAs (opened values) (now (out .entry)) at progress (r .progress) (now (out .exit)) (r .at) ⌝ }
+// An account's answer to an opening.
+fn account_reply(progress: Progress) -> Reply
+    ensures { λ r. ⌜ r ≡ accountReply (progress .account) (progress .values) ⌝ }
 {
     let account = progress.account;
-    let terms = terms_of(values);
-    let prices = prices_of(values);
-    let reply = account.opening(terms, prices, values[OPENS]);
+    let values = progress.values;
+    account.opening(terms_of(values), prices_of(values), values[OPENS])
+}
+
+// The account is opened and its number printed.
+fn open(progress: Progress, out: &mut [u8], at: usize) -> Ended
+    requires { ⌜ hasRoom (now out) at ≡ true ⌝ }
+    ensures { λ r. ⌜ EndsAs opened (now (out .entry)) at progress (r .progress) (now (out .exit)) (r .at) ⌝ }
+{
+    let reply = account_reply(progress);
     let after = reply.account;
+    let end = printing::put_open(out, at, reply.number);
     let mut next = progress;
-    next.expected = BILL_EXPECTED;
-    next.values = values;
     next.account = after;
     Ended {
         progress: next,
-        at: printing::put_open(out, at, reply.number),
+        at: end,
     }
 }
 
@@ -264,13 +263,13 @@ fn opening_line(progress: Progress, line: &[u8], out: &mut [u8], at: usize) -> E
     }
     let old = progress.values;
     let values = with_values(old, expected, numbers);
+    let mut next = progress;
+    next.expected = expected + 1;
+    next.values = values;
     if expected < 13 {
-        let mut next = progress;
-        next.expected = expected + 1;
-        next.values = values;
         return Ended { progress: next, at };
     }
-    open(progress, values, out, at)
+    open(next, out, at)
 }
 
 // A month begins.
@@ -505,7 +504,7 @@ impl Progress {
         Progress {
             lines: 0,
             expected: 0,
-            values: [0; 17],
+            values: [0; OPENING_NUMBERS],
             account,
             month: 0,
             critical: 0,

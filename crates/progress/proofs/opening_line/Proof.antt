@@ -1,50 +1,37 @@
 -- `progress::opening_line` stops at an unreadable line, and opens the account after the fourteenth.
 use mathlib.Core.Path.{_∙_, ap, sym}
-use mathlib.Core.List.{List, []}
-use Prim.Native.Nat.{ℕ, _+_}
+use mathlib.Core.List.{[]}
 use Rattle.grammar.specs.Grammar.{openingLine}
-use Rattle.lines.specs.Statement.{state, outcome, opened}
+use Rattle.lines.specs.Statement.{outcome, opened}
 use Rattle.progress.specs.Progressing.{stateOf}
-use Rattle.progress.proofs.Lines.{quiet, ends-by, values-are}
+use Rattle.progress.proofs.Lines.{quiet, ends-by}
+use Rattle.progress.proofs.Opening.{line-kept}
 use Rattle.lines.proofs.Laws.{opening-no, opening-more, opening-last}
 use borrow.Author.Needs.{needs}
 use Rattle.progress.proofs.opening_line.Statement.{statement}
 use Rattle.progress.proofs.opening_line.Tie as tie
-use Rattle.progress.proofs.opening_line.Reads as reads
-use Rattle.progress.proofs.opening_line.Lts as lts
-use Rattle.grammar.proofs.opening_line.Reads as opening-line-reads
-use Rattle.progress.proofs.open.Reads as open-reads
-use Rattle.progress.proofs.fault_at.Reads as fault-at-reads
-use Rattle.progress.proofs.with_values.Reads as with-values-reads
 
--- src/lib.rt:140:9
 opening-line-requires : tie.Need-opening-line-requires
 opening-line-requires c κs = search needs
 
--- src/lib.rt:142:9
 fault-at-requires : tie.Need-fault-at-requires
 fault-at-requires c κs = search needs
 
--- src/lib.rt:142:9
 same-length : tie.Need-same-length
 same-length c = search needs
 
--- src/lib.rt:142:9
 returns : tie.Need-returns
 returns c = λ d e.
     let st = c .before .before .before .before .before .before .before .before .before in
     let v = openingLine (st .args .progress .expected) (st .args .line .now) in
     ends-by _ _ _ _ _ _ _ (opening-no v _ (c .before .before .before .before .before .before .opening-line .ensures) (stateOf (st .args .progress) d e) (c .before .before .before .before .if1 .taken)) (c .before .before .fault-at .ensures d e)
 
--- src/lib.rt:145:9
 with-values-requires : tie.Need-with-values-requires
 with-values-requires c κs = search needs
 
--- src/lib.rt:148:20
 add-next : tie.Need-add-next
 add-next c = search needs
 
--- src/lib.rt:150:9
 returns-2 : tie.Need-returns-2
 returns-2 c = λ d e.
     let st = c .before .before .before .before .before .before .before .before in
@@ -52,20 +39,16 @@ returns-2 c = λ d e.
     let l = st .args .line .now in
     let read = c .before .before .before .before .before .opening-line .ensures in
     let some = c .before .before .before .if1 .left in
-    let values = c .before .with-values .ensures ∙ values-are (s .values) (s .expected) l _ (st .pre .0) read some in
+    let kept = line-kept s l _ _ (st .pre .0) read some (c .before .with-values .ensures) in
     quiet (st .args .out .now) (st .args .at) _ _
-    (opening-more (openingLine (s .expected) l) _ read s some (c .if2 .taken)
-    ∙ ap (λ (xs : List ℕ). outcome [] (state (s .lines) (s .expected + 1) xs (s .account) (s .entered))) (sym values))
+    (opening-more (openingLine (s .expected) l) _ read s some (c .if2 .taken) ∙ ap (outcome []) (sym kept))
 
--- src/lib.rt:152:5
 open-requires : tie.Need-open-requires
 open-requires c κs = search needs
 
--- src/lib.rt:134:1
 same-length-2 : tie.Need-same-length-2
 same-length-2 c = search needs
 
--- src/lib.rt:134:1
 returns-3 : tie.Need-returns-3
 returns-3 c = λ d e.
     let st = c .before .before .before .before .before .before .before .before .before .before .before .before in
@@ -73,9 +56,9 @@ returns-3 c = λ d e.
     let l = st .args .line .now in
     let read = c .before .before .before .before .before .before .before .before .before .opening-line .ensures in
     let some = c .before .before .before .before .before .before .before .if1 .left in
-    let values = c .before .before .before .before .before .with-values .ensures ∙ values-are (s .values) (s .expected) l _ (st .pre .0) read some in
+    let kept = line-kept s l _ _ (st .pre .0) read some (c .before .before .before .before .before .with-values .ensures) in
     ends-by _ _ _ _ _ _ _
-    (opening-last (openingLine (s .expected) l) _ read s some (c .before .before .before .before .if2 .left) ∙ ap (λ (xs : List ℕ). opened xs s) (sym values))
+    (opening-last (openingLine (s .expected) l) _ read s some (c .before .before .before .before .if2 .left) ∙ ap opened (sym kept))
     (c .before .before .«open» .ensures d e)
 
 pub opening-line-spec : {M : Type 1} → statement M

@@ -1,63 +1,55 @@
--- `progress::terms_of` reads the numbers of lines 2 to 6.
+-- `progress::terms_of` reads the numbers of lines 2 to 6; of two words 0 is the first.
+use mathlib.Core.Path.{_≡_, _∙_, sym}
+use mathlib.Core.Bool.{cond}
+use mathlib.Core.Logic.{⊎-elim}
+use borrow.Author.Tests.{eq-eqb, ne-eqb}
+use lib.Dec.{eqb}
+use lib.ListN.{getD}
+use Rattle.lines.specs.Opening.{riderOf, classOf, openingTerms}
 use borrow.Author.Needs.{needs}
 use Rattle.progress.proofs.terms_of.Statement.{statement}
 use Rattle.progress.proofs.terms_of.Tie as tie
-use Rattle.progress.proofs.terms_of.Reads as reads
-use Rattle.progress.proofs.terms_of.Lts as lts
-use Rattle.progress.proofs.class_of.Reads as class-of-reads
-use Rattle.progress.proofs.rider_of.Reads as rider-of-reads
 
--- src/lib.rt:193:26
-array-read-rider-of : tie.Need-array-read-rider-of
-array-read-rider-of c = search needs
+rider-is : (c : tie.Joined1) → c .if1 .rider ≡ riderOf (getD (c .before .args .t1) 1 0)
+rider-is c = ⊎-elim (λ w. w .1 ∙ sym (rw (eq-eqb _ _ (w .0 .taken)))) (λ w. w .1 ∙ sym (rw (ne-eqb _ _ (w .0 .left)))) (c .if1 .came)
 
--- src/lib.rt:193:9
-rider-of-requires : tie.Need-rider-of-requires
-rider-of-requires c κs = search needs
+class-is : (c : tie.Joined2) → c .if2 .class ≡ classOf (getD (c .before .before .args .t1) 2 0)
+class-is c = ⊎-elim (λ w. w .1 ∙ sym (rw (eq-eqb _ _ (w .0 .taken)))) (λ w. w .1 ∙ sym (rw (ne-eqb _ _ (w .0 .left)))) (c .if2 .came)
 
--- src/lib.rt:194:26
-array-read-class-of : tie.Need-array-read-class-of
-array-read-class-of c = search needs
+array-read-if1 : tie.Need-array-read-if1
+array-read-if1 c = search needs
 
--- src/lib.rt:194:9
-class-of-requires : tie.Need-class-of-requires
-class-of-requires c κs = search needs
+array-read-if2 : tie.Need-array-read-if2
+array-read-if2 c = search needs
 
--- src/lib.rt:198:20
 array-read-t7 : tie.Need-array-read-t7
 array-read-t7 c = search needs
 
--- src/lib.rt:198:20
-cast-t12 : tie.Need-cast-t12
-cast-t12 c = search needs
+cast-t15 : tie.Need-cast-t15
+cast-t15 c = search needs
 
--- src/lib.rt:199:16
-array-read-t15 : tie.Need-array-read-t15
-array-read-t15 c = search needs
+array-read-t18 : tie.Need-array-read-t18
+array-read-t18 c = search needs
 
--- src/lib.rt:199:16
-cast-t16 : tie.Need-cast-t16
-cast-t16 c = search needs
+cast-t19 : tie.Need-cast-t19
+cast-t19 c = search needs
 
--- src/lib.rt:200:19
-array-read-t19 : tie.Need-array-read-t19
-array-read-t19 c = search needs
+array-read-t22 : tie.Need-array-read-t22
+array-read-t22 c = search needs
 
--- src/lib.rt:190:1
 returns : tie.Need-returns
-returns c = cc
+unfolding openingTerms
+returns c = rw (rider-is (c .before), class-is c)
 
 pub terms-of-spec : {M : Type 1} → statement M
 terms-of-spec =
     tie.close
     (tie.spec
-    array-read-rider-of
-    rider-of-requires
-    array-read-class-of
-    class-of-requires
+    array-read-if1
+    array-read-if2
     array-read-t7
-    cast-t12
-    array-read-t15
-    cast-t16
-    array-read-t19
+    cast-t15
+    array-read-t18
+    cast-t19
+    array-read-t22
     returns)
