@@ -439,15 +439,14 @@ class Gate(unittest.TestCase):
     """The script `run` itself, with other programs in the place of those that it calls. Each of its parts can be made to fail."""
 
     SCRIPTS = ("layout", "contracts", "theorems", "tests", "refused")
-    PARTS = (*SCRIPTS, "fmt", "ci", "harness", "staticlib", "cc", "bill", "built", "examples", "statement", "compared")
+    PARTS = (*SCRIPTS, "fmt", "ci", "harness", "staticlib", "header", "built", "examples", "statement", "compared")
     PROGRAMS = {  # each ends by naming its part
         "bin/python3": 'set "$(basename "$1" .py)"',
         "bin/rt": '[ "$1" != ci ] || { echo "rt: kozempil proved (1 s)"; sleep 0.1; echo "rt: statement proved (1 s)"; echo "2 passed, 0 failed"; }',
         "bin/cargo": 'case $PWD/$1 in */compare/run) set compared ;; */compare/*) set built ;; *) set harness ;; esac',
-        "bin/cc": 'for out; do :; done; cp made "$out"; set cc',
-        "made": "echo ok; set bill",
         "statement": "echo ok; set statement",
         ".ci/examples": "set examples",
+        ".ci/header": "set header",
         ".ci/temporary": "echo /tmp; set temporary",
     }
 
@@ -459,7 +458,7 @@ class Gate(unittest.TestCase):
         shutil.copy(f"{HERE}/run", f"{self.root}/.ci/run")
         for name, text in self.PROGRAMS.items():
             self.program(name, f'#!/bin/sh\n{text}\n[ "$1" != "$FAILS" ]\n')
-        for name in ("paper.in", "paper.out", "bill.expected"):
+        for name in ("paper.in", "paper.out"):
             self.program(f"examples/{name}", "ok\n")
 
     def program(self, name, text):
