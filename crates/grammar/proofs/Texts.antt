@@ -11,7 +11,7 @@ use lib.ListN.{length, getD, take, drop, drop-of-length-le, List·getD-eq-defaul
 use lib.Seq.{drop-cons}
 use Rattle.text.specs.Text.{bytesOf}
 use Rattle.numerals.specs.Numerals.{numberIn}
-use Rattle.numerals.proofs.Rest.{rest-is}
+use Rattle.text.proofs.Lists.{rest-is}
 use Rattle.grammar.specs.Grammar.{beginsWith, keyed, openingLines, openingLine}
 use Rattle.grammar.specs.Kinds.{values, valueIn}
 

@@ -14,7 +14,7 @@ use Rattle.account.specs.declared.Stage.the-variants.{Fresh, Open, Closed}
 use Rattle.account.specs.declared.Account.{Account}
 use Rattle.records.specs.Sections.{termsNumbers, termsAt, knownTerms, pricesNumbers, pricesAt}
 use Rattle.records.proofs.Sections.{later, terms-long, terms-back, terms-known, prices-long, prices-back}
-use Rattle.records.proofs.Writing.{sets-append}
+use Rattle.text.proofs.Lists.{sets-append}
 use Rattle.kozempil.specs.Interface.{stageCode, stageAt, accountRow, isAccount, accountAt}
 use Rattle.kozempil.specs.Interface.{stagePlace, termsPlace, pricesPlace, nextPlace, accountLength}
 

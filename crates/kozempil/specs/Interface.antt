@@ -17,6 +17,7 @@ use Rattle.records.specs.Sections.{termsLength, termsNumbers, termsAt, knownTer
 use Rattle.records.specs.Records.{recordLength, isCall}
 use Rattle.records.specs.Rows.{rowLength}
 use Rattle.balances.specs.Calls.{Call, answersOf, lastOf}
+use Rattle.balances.specs.Balances.{Balanced}
 use Rattle.ledger.specs.Encoding.{rowsOf}
 use Rattle.kozempil.specs.declared.Counts.{Counts}
 
@@ -84,6 +85,7 @@ pub record ListAnswered (cs : List Call) (answersBefore answersAfter accountBefo
   pub written : r .written ≡ min (length cs) (length answersBefore / rowLength)
   pub answers : answersAfter ≡ sets answersBefore 0 (rowsOf (answersOf freshAccount cs))
   pub account : accountAfter ≡ sets accountBefore 0 (accountRow (lastOf freshAccount cs))
+  pub balances : Balanced freshAccount cs
 
 -- A call on a given account is answered where the numbers are an account, and the record is a call of a record's length.
 unfoldable pub isAnswered : List ℕ → List ℕ → Bool

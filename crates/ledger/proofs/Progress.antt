@@ -11,7 +11,7 @@ use lib.Seq.{sets}
 use Rattle.account.specs.declared.Account.{Account}
 use Rattle.records.specs.Records.{recordLength, deliveredPlace, receivedPlace, countAt, isCall}
 use Rattle.records.specs.Rows.{rowLength, rowOf}
-use Rattle.records.proofs.Writing.{sets-append}
+use Rattle.text.proofs.Lists.{sets-append}
 use Rattle.ledger.specs.declared.Ran.{Ran}
 use Rattle.ledger.specs.declared.Step.{Step}
 use Rattle.balances.specs.Calls.{Call, answerOf, accountAfter, answersOf, lastOf}

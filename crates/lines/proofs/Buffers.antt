@@ -2,17 +2,12 @@
 use mathlib.Core.Path.{_≡_, refl, sym, _∙_, ap}
 use mathlib.Core.List.{List, [], _∷_, _++_}
 use Prim.Native.Nat.{ℕ, zero, suc, _+_, _<_}
-use native.Mathlib.Nat.{add-zero, add-suc, suc-add}
 use native.Mathlib.Omega.{arith}
 use lib.ListN.{length, set, take}
 use lib.Seq.{sets, set-comm, set-set}
+use Rattle.text.proofs.Lists.{sets-append}
 use Rattle.lines.specs.Statement.{State}
 use Rattle.lines.specs.Feeding.{SoFar, after, afterByte, Registers, registersOf, withReadings, registersAfter}
-
--- Two lists are stored one after the other.
-pub sets-append : (l : List ℕ) (i : ℕ) (xs ys : List ℕ) → sets l i (xs ++ ys) ≡ sets (sets l i xs) (i + length xs) ys
-sets-append l i [] ys = rw add-zero
-sets-append l i (x ∷ xs) ys = sets-append (set l i x) (suc i) xs ys ∙ rw (add-suc, suc-add)
 
 -- A front stored where it stands changes nothing.
 sets-tail : (a : ℕ) (l : List ℕ) (i : ℕ) (xs : List ℕ) → sets (a ∷ l) (suc i) xs ≡ a ∷ sets l i xs

@@ -7,7 +7,7 @@ use borrow.Author.Tests.{eq-eqb, ne-eqb}
 use lib.ListN.{length, getD, take, drop}
 use Rattle.numerals.specs.Numerals.{valueOf, isNumber, isMonth, monthIn}
 use Rattle.numerals.specs.Joining.{monthFrom}
-use Rattle.numerals.proofs.Rest.{rest-is}
+use Rattle.text.proofs.Lists.{rest-is}
 
 module _ (l : List ℕ) where
   pub month-length : (length l ≡ 7 → ⊥) → monthIn l ≡ []

@@ -15,16 +15,7 @@ use Rattle.numerals.specs.declared.Numbers.{Numbers}
 use Rattle.numerals.specs.Numerals.{valueOf, isNumber, numberIn, onFirst, partsOf, allNumbers, numbersIn}
 use Rattle.numerals.specs.Reading.{numbersAs}
 use Rattle.numerals.specs.Joining.{ledBy}
-use Rattle.numerals.proofs.Rest.{rest-is}
-
-pub place-within : (b : ℕ) (l : List ℕ) → placeOf b l ≤ length l
-unfolding placeOf
-place-within b [] = omega arith
-place-within b (x ∷ l) = by (eqb x b) (place-within b l)
-  where
-    by : (t : Bool) → placeOf b l ≤ length l → cond t zero (suc (placeOf b l)) ≤ suc (length l)
-    by true h = omega arith
-    by false h = omega arith
+use Rattle.text.proofs.Lists.{rest-is}
 
 pub on-first-count : (b : ℕ) (ps : List (List ℕ)) → length (onFirst b ps) ≡ length ps
 on-first-count b [] = refl

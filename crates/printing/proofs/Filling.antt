@@ -9,7 +9,8 @@ use lib.ListN.{length, getD, drop, set, drop-of-length-le, length-append, length
 use lib.Seq.{sets, drop-cons}
 use Rattle.printing.specs.Text.{decimal, filledIn, mostBytes}
 use Rattle.printing.specs.Writing.{Wrote}
-use Rattle.printing.proofs.Writing.{sets-append, digits-within}
+use Rattle.text.proofs.Lists.{sets-append}
+use Rattle.printing.proofs.Writing.{digits-within}
 
 -- From place p of a template and number k on, what is left is written from place j on, and there is room for it.
 pub record Filling (t ns : List ℕ) (out₀ : List ℕ) (i : ℕ) (out : List ℕ) (j k p : ℕ) : Type 0 where

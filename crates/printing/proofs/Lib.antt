@@ -1,3 +1,3 @@
 mod Filling
 pub mod Laws
-mod Writing
+pub mod Writing

@@ -3,20 +3,15 @@ use mathlib.Core.Path.{_≡_, refl, _∙_, sym, ap}
 use mathlib.Core.List.{List, [], _∷_, _++_}
 use mathlib.Core.Bool.{Bool, true, false, not, cond}
 use Prim.Native.Nat.{ℕ, zero, suc, _+_, _-_, _/_, _%_, _≤_, _<_}
-use native.Mathlib.Nat.{add-zero, add-suc, suc-add}
 use native.Mathlib.Numerals.{sub-one}
 use native.Mathlib.Omega.{arith}
 use borrow.Author.Tests.{lt-ltb, le-ltb, le-leb, lt-leb, leb-true, leb-false, not-true, not-false}
 use lib.Dec.{leb, ltb}
 use lib.ListN.{length, set, length-append}
 use lib.Seq.{sets}
+use Rattle.text.proofs.Lists.{sets-append}
 use Rattle.printing.specs.Text.{digitByte, digits, mostBytes}
 use Rattle.printing.specs.Writing.{Wrote, Put, hasRoom}
-
--- Two lists are written one after the other.
-pub sets-append : (out : List ℕ) (i : ℕ) (xs ys : List ℕ) → sets out i (xs ++ ys) ≡ sets (sets out i xs) (i + length xs) ys
-sets-append out i [] ys = rw add-zero
-sets-append out i (x ∷ xs) ys = sets-append (set out i x) (suc i) xs ys ∙ rw (add-suc, suc-add)
 
 -- A text is written, and then another.
 pub then : {o o1 o2 xs ys : List ℕ} {i j k : ℕ} → Wrote o i xs o1 j → Wrote o1 j ys o2 k → Wrote o i (xs ++ ys) o2 k

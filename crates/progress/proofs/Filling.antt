@@ -7,7 +7,8 @@ use native.Mathlib.Omega.{arith}
 use lib.ListN.{length, set, take, drop, replicate, length-replicate, replicate-append-replicate, length-append}
 use lib.Seq.{sets, sets-eq, take-at, length-take-le}
 use Rattle.lines.specs.Feeding.{Registers, registersOf, withReadings}
-use Rattle.lines.proofs.Buffers.{sets-append, readings-same}
+use Rattle.text.proofs.Lists.{sets-append}
+use Rattle.lines.proofs.Buffers.{readings-same}
 use Rattle.lines.specs.Statement.{Outcome}
 use Rattle.progress.specs.Progressing.{stateOf}
 use Rattle.progress.specs.Ending.{Ends, EndsWith, ranTo}

@@ -18,19 +18,10 @@ use Rattle.lines.specs.Statement.{State, state, Outcome, outcome, nextNumber, c
 use Rattle.lines.specs.Feeding.{Registers, registersOf, withReadings}
 use Rattle.progress.specs.Progressing.{stateOf, lineAt, isRun, isRunExpected, runsBytes, runsState, RunsRead}
 use Rattle.progress.specs.Ending.{runAt, ranTo}
+use Rattle.text.proofs.Laws.{place-within}
 use Rattle.progress.proofs.Filling.{filled-front, filled-both}
 use Rattle.progress.proofs.Lines.{least-taken}
 use Rattle.lines.proofs.Laws.{later-run, run-yes, expected-later}
-
--- The first newline stands inside, or there is none.
-pub place-within : (l : List ℕ) → placeOf 10 l ≤ length l
-unfolding placeOf
-place-within [] = omega arith
-place-within (b ∷ l) = by (eqb b 10) (place-within l)
-  where
-    by : (t : Bool) → placeOf 10 l ≤ length l → cond t zero (suc (placeOf 10 l)) ≤ length (b ∷ l)
-    by true h = omega arith
-    by false h = omega arith
 
 -- The tests, one after the other: p is where the first newline stands, x what the line gives.
 module _ (l : List ℕ) (n p : ℕ) (at : p ≡ placeOf 10 l) where
@@ -86,7 +77,7 @@ run-fits l n h = by (eqb (placeOf 10 l) (length l)) (eqb (length (runLine (lineA
     by false true p q e = let z : _≡_ {A = ℕ} 0 1 = cc in absurd (omega arith)
     by false false p q e =
         record {
-          newline = omega (arith, place-within l, eqb-false (placeOf 10 l) (length l) p);
+          newline = omega (arith, place-within 10 l, eqb-false (placeOf 10 l) (length l) p);
           read = eqb-false (length (runLine (lineAt l))) 0 q;
           fits = leb-true (n + getD (runLine (lineAt l)) 0 0) 2976 e;
         }

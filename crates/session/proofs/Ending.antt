@@ -16,7 +16,7 @@ use Rattle.session.specs.Sessions.{Lent, soFarOf, lentAtEnd, Finishes}
 use Rattle.lines.proofs.Lengths.{text-fits, end-fits}
 use Rattle.session.proofs.Keeping.{least-taken}
 use Rattle.session.proofs.Turns.{lending, same-lent}
-use Rattle.session.proofs.Going.{then}
+use Rattle.printing.proofs.Writing.{then}
 
 -- Without room nothing is written.
 pub finish-none : (x : Session) (b : Lent) (out : List ℕ) → length out < 2048 → Finishes x b out b 0 out

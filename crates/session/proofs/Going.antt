@@ -13,18 +13,12 @@ use Rattle.lines.specs.Feeding.{SoFar, after, printed, takenOf, registersAfter}
 use Rattle.session.specs.declared.Session.{Session}
 use Rattle.session.specs.Sessions.{Lent, soFarOf, leastRoom, lentAfter, Feeds}
 use Rattle.session.specs.Taking.{Takes}
-use Rattle.lines.proofs.Buffers.{sets-append, sets-front, cut-registers}
+use Rattle.text.proofs.Lists.{rest-is}
+use Rattle.printing.proofs.Writing.{then}
+use Rattle.lines.proofs.Buffers.{sets-front, cut-registers}
 use Rattle.lines.proofs.Streams.{cut-text, cut-state}
 use Rattle.session.proofs.Taking.{none-taken}
 use Rattle.session.proofs.Turns.{same-lent}
-
--- A text is written, and then another.
-pub then : {o o1 o2 xs ys : List ℕ} {i j k : ℕ} → Wrote o i xs o1 j → Wrote o1 j ys o2 k → Wrote o i (xs ++ ys) o2 k
-then {o} {o1} {o2} {xs} {ys} {i} {j} {k} p q =
-    record {
-      bytes = q .bytes ∙ rw (p .bytes, p .end) (sym (sets-append o i xs ys));
-      end = rw length-append (omega arith);
-    }
 
 pub record Going
     (before : SoFar) (b : Lent) (input out : List ℕ) (taken : ℕ) (current : SoFar) (c : Lent) (written : ℕ) (outCurrent : List ℕ) : Type 0 where
@@ -88,15 +82,11 @@ room-yes out i r e f = sym e ∙ not-false r f
 pub room-none : (out : List ℕ) (i : ℕ) (r : Bool) → r ≡ hasRoom out i → not r ≡ true → hasRoom out i ≡ false
 room-none out i r e f = sym e ∙ not-true r f
 
--- What is left of the input.
-pub rest-of : (input : List ℕ) (taken : ℕ) → take (length input - taken) (drop taken input) ≡ drop taken input
-rest-of input taken = take-all (length input - taken) (drop taken input) (omega (arith, length-drop taken input))
-
 -- Some bytes more.
 pub more-taken : {before later : SoFar} {b c : Lent} {out outLater : List ℕ} {i j : ℕ} (input : List ℕ) (taken t : ℕ) → taken < length input
     → Takes before b (take (length input - taken) (drop taken input)) out i t later c j outLater → (0 < t) × (taken + t ≤ length input)
 more-taken input taken t h made =
-    let l = rw (rest-of input taken) at made in
+    let l = rw (rest-is taken input) at made in
     let long = length-drop taken input in
     (l .some (omega arith), omega (arith, l .inside))
 
@@ -106,7 +96,7 @@ module _ {before current later : SoFar} {b c c′ : Lent} {input out outCurrent 
       → Going before b input out (taken + t) later c′ j outLater
   going-more g h room made =
       let rest = drop taken input in
-      let l = rw (rest-of input taken) at made in
+      let l = rw (rest-is taken input) at made in
       let left : written + 1024 ≤ length out = omega (arith, room-left outCurrent written room, same-long g) in
       let text = printed current (take t rest) in
       let short : length text ≤ 1024 = l .short in

@@ -11,7 +11,8 @@ use lib.Dec.{leb}
 use lib.ListN.{length, getD, set, take, drop, length-append}
 use lib.Seq.{sets, length-sets, sets-eq, take-all, take-at, take-suc, take-append-add, length-take-le}
 use Rattle.printing.specs.Writing.{Wrote}
-use Rattle.lines.proofs.Buffers.{sets-append, sets-front}
+use Rattle.text.proofs.Lists.{sets-append}
+use Rattle.lines.proofs.Buffers.{sets-front}
 use Rattle.session.specs.Taking.{keptOf}
 
 -- So many as are asked for, or all.

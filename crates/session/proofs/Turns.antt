@@ -14,7 +14,7 @@ use Rattle.progress.specs.Progressing.{Reads}
 use Rattle.lines.specs.Feeding.{SoFar, afterByte, byteText, after, printed, Registers, withReadings, registersAfter}
 use Rattle.session.specs.Sessions.{Lent}
 use Rattle.session.specs.Taking.{keptOf, lineBytes, TakesLine}
-use Rattle.progress.proofs.RunLines.{place-within}
+use Rattle.text.proofs.Laws.{place-within}
 use Rattle.lines.proofs.Buffers.{cut-registers}
 use Rattle.lines.proofs.Streams.{cut-text, cut-state, newline-state, newline-text, other-state}
 use Rattle.session.proofs.Keeping.{kept-front}
@@ -100,7 +100,7 @@ module _ (line whole input out : List ℕ) (held more e i : ℕ) (s : State) (r 
   line-ended outLater j t q n room w =
       let x = holding (take held line) s in
       let y = holding (take more whole) s in
-      let short : placeOf 10 input < length input = omega (arith, place-within input) in
+      let short : placeOf 10 input < length input = omega (arith, place-within 10 input) in
       let all : take (e + 1) input ≡ take e input ++ 10 ∷ [] = rw p (newline-last input short) in
       let text : printed x (take (e + 1) input) ≡ lineRead (take more whole) s .text
       = rw (all, printed-newline x (take e input), none, state) (newline-text y 10 refl) in
@@ -119,5 +119,5 @@ module _ (line whole input out : List ℕ) (held more e i : ℕ) (s : State) (r 
 pub line-whole : (x : SoFar) (l : List ℕ) → lineBytes l < length l → after x (take (lineBytes l) l) .line ≡ []
 line-whole x l h =
     let some : placeOf 10 l ≡ length l → ⊥ = λ q. omega (arith, bytes-all l q) in
-    let short : placeOf 10 l < length l = omega (arith, place-within l) in
+    let short : placeOf 10 l < length l = omega (arith, place-within 10 l) in
     rw (bytes-place l short, newline-last l short, after-newline x (take (placeOf 10 l) l), newline-state (after x (take (placeOf 10 l) l)) 10 refl)

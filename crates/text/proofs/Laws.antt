@@ -1,7 +1,7 @@
 -- Where a byte first stands.
 use mathlib.Core.Path.{_≡_, refl, sym, _∙_, ap}
 use mathlib.Core.Logic.{_≢_}
-use mathlib.Core.Bool.{cond, true, false}
+use mathlib.Core.Bool.{Bool, cond, true, false}
 use mathlib.Core.List.{List, [], _∷_}
 use Prim.Native.Nat.{ℕ, zero, suc, _+_, _≤_, _<_}
 use native.Mathlib.Numerals.{add-one}
@@ -26,3 +26,13 @@ place-next b i l h e = rw (drop-cons l i 0 h, add-one i, add-one (placeOf b (dro
 pub place-end : (b i : ℕ) (l : List ℕ) → length l ≤ i → placeOf b (drop i l) ≡ 0
 unfolding placeOf
 place-end b i l h = rw (drop-of-length-le l h)
+
+-- It stands inside, or nowhere.
+pub place-within : (b : ℕ) (l : List ℕ) → placeOf b l ≤ length l
+unfolding placeOf
+place-within b [] = omega arith
+place-within b (x ∷ l) = by (eqb x b) (place-within b l)
+  where
+    by : (t : Bool) → placeOf b l ≤ length l → cond t zero (suc (placeOf b l)) ≤ suc (length l)
+    by true h = omega arith
+    by false h = omega arith

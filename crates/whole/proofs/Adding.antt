@@ -15,7 +15,8 @@ use Rattle.lines.proofs.Streams.{taken-some}
 use Rattle.session.specs.declared.Session.{Session}
 use Rattle.session.specs.Sessions.{Lent, soFarOf, leastRoom, Feeds, Finishes}
 use Rattle.whole.specs.Adding.{Adds, FeedsSome}
-use Rattle.whole.proofs.Writing.{sets-append, sets-out, front}
+use Rattle.text.proofs.Lists.{sets-append, sets-out}
+use Rattle.whole.proofs.Writing.{front}
 
 -- A place that stays at the largest number is past the end, as the place further on would be.
 past-end : (out xs : List ℕ) (i : ℕ) → length out ≤ lastNumber → sets out (min i lastNumber) xs ≡ sets out i xs

@@ -6,6 +6,7 @@ use Prim.Native.Nat.{ℕ, _+_, _-_, _≤_, _<_}
 use native.Mathlib.Omega.{arith}
 use lib.ListN.{length, take, drop, length-drop, take-append-drop, drop-of-length-le}
 use lib.Seq.{sets, length-sets, take-all, drop-drop}
+use Rattle.text.proofs.Lists.{rest-is}
 use Rattle.lines.specs.Statement.{lastNumber, hasStopped, statementOf}
 use Rattle.lines.specs.Feeding.{SoFar, nothingRead, after, printed, ending}
 use Rattle.lines.proofs.Streams.{streams, cut-text, cut-state}
@@ -38,10 +39,6 @@ same-long {input} {text} {textCurrent} {taken} {place} {current} g =
     let e = g .rest (sets textCurrent place (left current (drop taken input))) _ (record { bytes = refl; end = refl }) .bytes in
     sym (length-sets textCurrent place (left current (drop taken input))) ∙ ap length e ∙ length-sets text 0 (statementOf input)
 
--- What is left of the input.
-rest-of : (input : List ℕ) (taken : ℕ) → take (length input - taken) (drop taken input) ≡ drop taken input
-rest-of input taken = take-all (length input - taken) (drop taken input) (omega (arith, length-drop taken input))
-
 -- Some bytes more are taken, and what they print is added.
 pub going-more : {input text textCurrent textLater : List ℕ} {taken place t j : ℕ} {current later : SoFar} → length text ≤ lastNumber
     → Going input text taken current textCurrent place → taken < length input
@@ -49,7 +46,7 @@ pub going-more : {input text textCurrent textLater : List ℕ} {taken place t j 
     → (taken < taken + t) × Going input text (taken + t) later textLater j
 going-more {input} {taken = taken} {t = t} {current = current} {later = later} h g inside made =
     let bytes = drop taken input in
-    let m = rw (rest-of input taken) at made in
+    let m = rw (rest-is taken input) at made in
     let long : length bytes ≡ length input - taken = length-drop taken input in
     let both : left current bytes ≡ printed current (take t bytes) ++ left later (drop (taken + t) input)
     = ap (λ (l : List ℕ). left current l) (sym (take-append-drop t bytes)) ∙ left-cut current (take t bytes) (drop t bytes)

@@ -3,23 +3,13 @@ use mathlib.Core.Path.{_≡_, refl, sym, _∙_, ap}
 use mathlib.Core.Bool.{Bool, true, false}
 use mathlib.Core.List.{List, [], _∷_, _++_}
 use Prim.Native.Nat.{ℕ, suc, _+_, _-_, _≤_, _<_, min}
-use native.Mathlib.Nat.{add-zero, add-suc, suc-add}
 use native.Mathlib.Numerals.{add-one}
 use native.Mathlib.Omega.{arith}
 use borrow.Author.Tests.{leb-true, leb-false}
 use lib.Dec.{leb}
 use lib.ListN.{length, getD, set, take, drop, take-append-drop}
-use lib.Seq.{sets, length-sets, sets-eq, set-out, take-all, take-suc, take-append-seam, length-take-le}
-
--- Two lists are written one after the other.
-pub sets-append : (out : List ℕ) (i : ℕ) (xs ys : List ℕ) → sets out i (xs ++ ys) ≡ sets (sets out i xs) (i + length xs) ys
-sets-append out i [] ys = rw add-zero
-sets-append out i (x ∷ xs) ys = sets-append (set out i x) (suc i) xs ys ∙ rw (add-suc, suc-add)
-
--- Nothing is written past the end.
-pub sets-out : (out : List ℕ) (i : ℕ) (xs : List ℕ) → length out ≤ i → sets out i xs ≡ out
-sets-out out i [] h = refl
-sets-out out i (x ∷ xs) h = rw (set-out out i x h) (sets-out out (suc i) xs (omega arith))
+use lib.Seq.{sets, length-sets, sets-eq, take-all, take-suc, take-append-seam, length-take-le}
+use Rattle.text.proofs.Lists.{sets-append, sets-out}
 
 -- What was written to the front stands there, where it fits.
 pub front : (out xs : List ℕ) → length xs ≤ length out → take (length xs) (sets out 0 xs) ≡ xs

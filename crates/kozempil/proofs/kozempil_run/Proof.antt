@@ -1,5 +1,6 @@
 -- `kozempil::kozempil_run` hands on what `ledger::run` promises of every list, and writes the last account.
 use mathlib.Core.Path.{refl}
+use Rattle.balances.proofs.Balances.{starts-fresh}
 use Rattle.kozempil.proofs.kozempil_run.Statement.{statement}
 use Rattle.kozempil.proofs.kozempil_run.Tie as tie
 
@@ -28,6 +29,7 @@ returns c =
         written = held .written;
         answers = rw fresh at (held .answers);
         account = rw (← (rw fresh at (held .account))) (c .before .before .write-account .ensures);
+        balances = (rw fresh at (held .balances)) starts-fresh;
       },
       (refl, refl, refl),
     )

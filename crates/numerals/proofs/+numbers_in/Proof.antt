@@ -6,7 +6,8 @@ use borrow.Author.Needs.{needs}
 use borrow.Fn.Kinds.{In}
 use borrow.Fn.PlainCycle.{Measures, is, falls, and}
 use lib.ListN.{length-take}
-use Rattle.numerals.proofs.Parts.{place-within, counted, numbers-none, numbers-last, numbers-few, numbers-more}
+use Rattle.text.proofs.Laws.{place-within}
+use Rattle.numerals.proofs.Parts.{counted, numbers-none, numbers-last, numbers-few, numbers-more}
 use Rattle.numerals.proofs.numbers_in.Reads as reads
 use Rattle.numerals.proofs.numbers_in.Kinds as kinds
 use Rattle.numerals.proofs.+numbers_in.Lts-numbers_in as lts

@@ -2,7 +2,8 @@
 use native.Mathlib.Omega.{arith}
 use borrow.Author.Needs.{needs}
 use lib.ListN.{length-take}
-use Rattle.progress.proofs.RunLines.{place-within, no-newline, no-numbers, no-place, run-there}
+use Rattle.text.proofs.Laws.{place-within}
+use Rattle.progress.proofs.RunLines.{no-newline, no-numbers, no-place, run-there}
 use Rattle.progress.proofs.next_run.Statement.{statement}
 use Rattle.progress.proofs.next_run.Tie as tie
 
@@ -19,7 +20,7 @@ slice-aggregate-run-line : tie.Need-slice-aggregate-run-line
 slice-aggregate-run-line c =
     let found = c .before .before in
     let args = found .before .before .args in
-    omega (arith, found .place-of .ensures, place-within (args .input .now), length-take (found .place-of .result) (args .input .now))
+    omega (arith, found .place-of .ensures, place-within 10 (args .input .now), length-take (found .place-of .result) (args .input .now))
 
 run-line-requires : tie.Need-run-line-requires
 run-line-requires c κs = search needs
@@ -54,7 +55,7 @@ add-t7 c =
     let else = c .before .before .before .before .before .before in
     let found = else .before in
     let start = found .before .before in
-    omega (arith, found .place-of .ensures, place-within (start .args .input .now), else .if1 .left)
+    omega (arith, found .place-of .ensures, place-within 10 (start .args .input .now), else .if1 .left)
 
 returns-4 : tie.Need-returns-4
 returns-4 c =

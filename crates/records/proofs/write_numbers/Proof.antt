@@ -5,7 +5,8 @@ use native.Mathlib.Nat.{add-zero}
 use native.Mathlib.Omega.{arith}
 use lib.ListN.{length, drop}
 use lib.Seq.{sets}
-use Rattle.records.proofs.Writing.{put-next, all-put, sets-out}
+use Rattle.text.proofs.Lists.{sets-out}
+use Rattle.records.proofs.Writing.{put-next, all-put}
 use Rattle.records.proofs.write_numbers.Statement.{statement}
 use Rattle.records.proofs.write_numbers.Tie as tie
 

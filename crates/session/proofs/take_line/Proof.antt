@@ -5,7 +5,7 @@ use native.Mathlib.Omega.{arith}
 use lib.ListN.{length-take}
 use Rattle.progress.specs.Progressing.{stateOf}
 use Rattle.lines.proofs.Buffers.{readings-same}
-use Rattle.progress.proofs.RunLines.{place-within}
+use Rattle.text.proofs.Laws.{place-within}
 use Rattle.session.proofs.Turns.{kept-within, all-held, line-ended}
 use Rattle.session.proofs.take_line.Statement.{statement}
 use Rattle.session.proofs.take_line.Tie as tie
@@ -15,7 +15,7 @@ place-of-requires c κs = search needs
 
 slice-aggregate-keep : tie.Need-slice-aggregate-keep
 slice-aggregate-keep c =
-    let end = place-within (c .before .before .before .before .before .before .args .input .now) in
+    let end = place-within 10 (c .before .before .before .before .before .before .args .input .now) in
     simp length-take (omega (arith, c .before .before .place-of .ensures))
 
 keep-requires : tie.Need-keep-requires
@@ -49,7 +49,7 @@ add-t17 c =
     let else = c .before .before .before .before .before .before .before .before in
     let found = else .before .before .before .before .before in
     let start = found .before .before .before .before in
-    omega (arith, place-within (start .args .input .now), found .place-of .ensures, else .if1 .left, start .good .1 .1 .1 .1 .0 .0)
+    omega (arith, place-within 10 (start .args .input .now), found .place-of .ensures, else .if1 .left, start .good .1 .1 .1 .1 .0 .0)
 
 same-length : tie.Need-same-length
 same-length c = search needs

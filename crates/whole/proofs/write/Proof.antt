@@ -5,7 +5,8 @@ use native.Mathlib.Omega.{arith}
 use borrow.Author.Needs.{needs}
 use lib.ListN.{length, take}
 use lib.Seq.{sets, length-sets}
-use Rattle.whole.proofs.Writing.{sets-out, written-more, all-written}
+use Rattle.text.proofs.Lists.{sets-out}
+use Rattle.whole.proofs.Writing.{written-more, all-written}
 use Rattle.whole.proofs.write.Statement.{statement}
 use Rattle.whole.proofs.write.Tie as tie
 
