@@ -20,33 +20,33 @@ static uint32_t received[KOZEMPIL_MOST_READINGS];
 static void bill(uint64_t month)
 {
     const uint64_t readings = kozempil_register_length(JANUARY_2000);
-    const uint64_t calls[CALLS][KOZEMPIL_CALL] = {
+    const uint64_t calls[CALLS][KOZEMPIL_CALL_LENGTH] = {
         {
-            [KOZEMPIL_CALL_KIND] = KOZEMPIL_OPENING,
-            [KOZEMPIL_CALL_RIDER] = KOZEMPIL_BANKED,
-            [KOZEMPIL_CALL_CLASS] = KOZEMPIL_HOME,
+            [KOZEMPIL_CALL_KIND] = KOZEMPIL_KIND_OPENING,
+            [KOZEMPIL_CALL_RIDER] = KOZEMPIL_RIDER_BANKED,
+            [KOZEMPIL_CALL_CLASS] = KOZEMPIL_CLASS_HOME,
             [KOZEMPIL_CALL_NAMEPLATE] = 5000,
-            [KOZEMPIL_CALL_LIMIT] = 5000,
-            [KOZEMPIL_CALL_ENERGY + KOZEMPIL_CRITICAL] = 20000,
-            [KOZEMPIL_CALL_ENERGY + KOZEMPIL_ON_PEAK] = 20000,
-            [KOZEMPIL_CALL_ENERGY + KOZEMPIL_OFF_PEAK] = 20000,
-            [KOZEMPIL_CALL_ENERGY + KOZEMPIL_DISCOUNT] = 20000,
+            [KOZEMPIL_CALL_DEMAND_LIMIT] = 5000,
+            [KOZEMPIL_CALL_ENERGY_PRICE + KOZEMPIL_PERIOD_CRITICAL] = 20000,
+            [KOZEMPIL_CALL_ENERGY_PRICE + KOZEMPIL_PERIOD_ON_PEAK] = 20000,
+            [KOZEMPIL_CALL_ENERGY_PRICE + KOZEMPIL_PERIOD_OFF_PEAK] = 20000,
+            [KOZEMPIL_CALL_ENERGY_PRICE + KOZEMPIL_PERIOD_DISCOUNT] = 20000,
             [KOZEMPIL_CALL_BASIC] = 1400,
             [KOZEMPIL_CALL_FIRST_MONTH] = JANUARY_2000,
         },
         {
-            [KOZEMPIL_CALL_KIND] = KOZEMPIL_BILLING,
+            [KOZEMPIL_CALL_KIND] = KOZEMPIL_KIND_BILLING,
             [KOZEMPIL_CALL_MONTH] = month,
-            [KOZEMPIL_CALL_DELIVERED] = readings,
-            [KOZEMPIL_CALL_RECEIVED] = readings,
+            [KOZEMPIL_CALL_DELIVERED_COUNT] = readings,
+            [KOZEMPIL_CALL_RECEIVED_COUNT] = readings,
         },
     };
-    uint64_t answers[CALLS][KOZEMPIL_ANSWER];
-    uint64_t account[KOZEMPIL_ACCOUNT];
+    uint64_t answers[CALLS][KOZEMPIL_ANSWER_LENGTH];
+    uint64_t account[KOZEMPIL_ACCOUNT_LENGTH];
 
     struct kozempil_counts counts = kozempil_run(
-        calls[0], CALLS * KOZEMPIL_CALL, delivered, readings, received, readings,
-        answers[0], CALLS * KOZEMPIL_ANSWER, account, KOZEMPIL_ACCOUNT);
+        calls[0], CALLS * KOZEMPIL_CALL_LENGTH, delivered, readings, received, readings,
+        answers[0], CALLS * KOZEMPIL_ANSWER_LENGTH, account, KOZEMPIL_ACCOUNT_LENGTH);
     if (counts.answered < CALLS) {
         printf("call %" PRIu64 " can't be read\n", counts.answered);
         return;

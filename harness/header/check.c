@@ -24,10 +24,10 @@ static void same(const char *what, uint64_t got, uint64_t expected)
     }
 }
 
-static uint64_t account[KOZEMPIL_ACCOUNT];
-static uint64_t after[KOZEMPIL_ACCOUNT];
-static uint64_t call[KOZEMPIL_CALL];
-static uint64_t answer[KOZEMPIL_ANSWER];
+static uint64_t account[KOZEMPIL_ACCOUNT_LENGTH];
+static uint64_t after[KOZEMPIL_ACCOUNT_LENGTH];
+static uint64_t call[KOZEMPIL_CALL_LENGTH];
+static uint64_t answer[KOZEMPIL_ANSWER_LENGTH];
 static uint32_t delivered[KOZEMPIL_MOST_READINGS + 1];
 static uint32_t received[KOZEMPIL_MOST_READINGS + 1];
 
@@ -46,15 +46,15 @@ static void clear(void)
 static void open_home(void)
 {
     clear();
-    account[KOZEMPIL_ACCOUNT_STAGE] = KOZEMPIL_OPEN;
-    account[KOZEMPIL_ACCOUNT_RIDER] = KOZEMPIL_BANKED;
-    account[KOZEMPIL_ACCOUNT_CLASS] = KOZEMPIL_HOME;
+    account[KOZEMPIL_ACCOUNT_STAGE] = KOZEMPIL_STAGE_OPEN;
+    account[KOZEMPIL_ACCOUNT_RIDER] = KOZEMPIL_RIDER_BANKED;
+    account[KOZEMPIL_ACCOUNT_CLASS] = KOZEMPIL_CLASS_HOME;
     account[KOZEMPIL_ACCOUNT_NAMEPLATE] = 5000;
-    account[KOZEMPIL_ACCOUNT_LIMIT] = 6000;
-    account[KOZEMPIL_ACCOUNT_ENERGY + KOZEMPIL_CRITICAL] = 40000;
-    account[KOZEMPIL_ACCOUNT_ENERGY + KOZEMPIL_ON_PEAK] = 30000;
-    account[KOZEMPIL_ACCOUNT_ENERGY + KOZEMPIL_OFF_PEAK] = 20000;
-    account[KOZEMPIL_ACCOUNT_ENERGY + KOZEMPIL_DISCOUNT] = 10000;
+    account[KOZEMPIL_ACCOUNT_DEMAND_LIMIT] = 6000;
+    account[KOZEMPIL_ACCOUNT_ENERGY_PRICE + KOZEMPIL_PERIOD_CRITICAL] = 40000;
+    account[KOZEMPIL_ACCOUNT_ENERGY_PRICE + KOZEMPIL_PERIOD_ON_PEAK] = 30000;
+    account[KOZEMPIL_ACCOUNT_ENERGY_PRICE + KOZEMPIL_PERIOD_OFF_PEAK] = 20000;
+    account[KOZEMPIL_ACCOUNT_ENERGY_PRICE + KOZEMPIL_PERIOD_DISCOUNT] = 10000;
     account[KOZEMPIL_ACCOUNT_NEXT] = JANUARY;
 }
 
@@ -64,8 +64,8 @@ static uint64_t number_with(size_t readings)
     memset(answer, 0xff, sizeof answer);
     memset(after, 0xff, sizeof after);
     same("kozempil_call returns",
-         kozempil_call(account, KOZEMPIL_ACCOUNT, call, KOZEMPIL_CALL, delivered, readings, received, readings,
-                       answer, KOZEMPIL_ANSWER, after, KOZEMPIL_ACCOUNT), 1);
+         kozempil_call(account, KOZEMPIL_ACCOUNT_LENGTH, call, KOZEMPIL_CALL_LENGTH, delivered, readings, received, readings,
+                       answer, KOZEMPIL_ANSWER_LENGTH, after, KOZEMPIL_ACCOUNT_LENGTH), 1);
     return answer[KOZEMPIL_ANSWER_NUMBER];
 }
 
@@ -77,7 +77,7 @@ static uint64_t number(void)
 static void ask_to_bill(uint64_t month, uint64_t days)
 {
     memset(call, 0, sizeof call);
-    call[KOZEMPIL_CALL_KIND] = KOZEMPIL_BILLING;
+    call[KOZEMPIL_CALL_KIND] = KOZEMPIL_KIND_BILLING;
     call[KOZEMPIL_CALL_MONTH] = month;
     call[KOZEMPIL_CALL_CRITICAL_DAYS] = days;
 }
@@ -85,16 +85,16 @@ static void ask_to_bill(uint64_t month, uint64_t days)
 static void ask_to_close(void)
 {
     memset(call, 0, sizeof call);
-    call[KOZEMPIL_CALL_KIND] = KOZEMPIL_CLOSING;
+    call[KOZEMPIL_CALL_KIND] = KOZEMPIL_KIND_CLOSING;
 }
 
 /* An opening of a fresh account: a home with falling prices. */
 static void ask_to_open(void)
 {
     clear();
-    call[KOZEMPIL_CALL_KIND] = KOZEMPIL_OPENING;
+    call[KOZEMPIL_CALL_KIND] = KOZEMPIL_KIND_OPENING;
     call[KOZEMPIL_CALL_NAMEPLATE] = 5000;
-    call[KOZEMPIL_CALL_LIMIT] = 6000;
+    call[KOZEMPIL_CALL_DEMAND_LIMIT] = 6000;
 }
 
 static void codes_and_places_of_an_opening(void)
@@ -104,44 +104,44 @@ static void codes_and_places_of_an_opening(void)
         int call, account;
         uint64_t value;
     } places[] = {
-        {"rider", KOZEMPIL_CALL_RIDER, KOZEMPIL_ACCOUNT_RIDER, KOZEMPIL_BRIDGE},
-        {"class", KOZEMPIL_CALL_CLASS, KOZEMPIL_ACCOUNT_CLASS, KOZEMPIL_HOME},
+        {"rider", KOZEMPIL_CALL_RIDER, KOZEMPIL_ACCOUNT_RIDER, KOZEMPIL_RIDER_BRIDGE},
+        {"class", KOZEMPIL_CALL_CLASS, KOZEMPIL_ACCOUNT_CLASS, KOZEMPIL_CLASS_HOME},
         {"nameplate", KOZEMPIL_CALL_NAMEPLATE, KOZEMPIL_ACCOUNT_NAMEPLATE, 7001},
-        {"limit", KOZEMPIL_CALL_LIMIT, KOZEMPIL_ACCOUNT_LIMIT, 7002},
-        {"assisted", KOZEMPIL_CALL_ASSISTED, KOZEMPIL_ACCOUNT_ASSISTED, 1},
-        {"critical", KOZEMPIL_CALL_ENERGY + KOZEMPIL_CRITICAL, KOZEMPIL_ACCOUNT_ENERGY + KOZEMPIL_CRITICAL, 904},
-        {"on-peak", KOZEMPIL_CALL_ENERGY + KOZEMPIL_ON_PEAK, KOZEMPIL_ACCOUNT_ENERGY + KOZEMPIL_ON_PEAK, 903},
-        {"off-peak", KOZEMPIL_CALL_ENERGY + KOZEMPIL_OFF_PEAK, KOZEMPIL_ACCOUNT_ENERGY + KOZEMPIL_OFF_PEAK, 902},
-        {"discount", KOZEMPIL_CALL_ENERGY + KOZEMPIL_DISCOUNT, KOZEMPIL_ACCOUNT_ENERGY + KOZEMPIL_DISCOUNT, 901},
-        {"demand", KOZEMPIL_CALL_DEMAND, KOZEMPIL_ACCOUNT_DEMAND, 10},
-        {"standby", KOZEMPIL_CALL_STANDBY, KOZEMPIL_ACCOUNT_STANDBY, 11},
-        {"bypass", KOZEMPIL_CALL_BYPASS, KOZEMPIL_ACCOUNT_BYPASS, 12},
-        {"credit", KOZEMPIL_CALL_CREDIT, KOZEMPIL_ACCOUNT_CREDIT, 13},
-        {"distribution", KOZEMPIL_CALL_DISTRIBUTION, KOZEMPIL_ACCOUNT_DISTRIBUTION, 14},
+        {"limit", KOZEMPIL_CALL_DEMAND_LIMIT, KOZEMPIL_ACCOUNT_DEMAND_LIMIT, 7002},
+        {"assisted", KOZEMPIL_CALL_ASSISTED, KOZEMPIL_ACCOUNT_ASSISTED, KOZEMPIL_ASSISTED},
+        {"critical", KOZEMPIL_CALL_ENERGY_PRICE + KOZEMPIL_PERIOD_CRITICAL, KOZEMPIL_ACCOUNT_ENERGY_PRICE + KOZEMPIL_PERIOD_CRITICAL, 904},
+        {"on-peak", KOZEMPIL_CALL_ENERGY_PRICE + KOZEMPIL_PERIOD_ON_PEAK, KOZEMPIL_ACCOUNT_ENERGY_PRICE + KOZEMPIL_PERIOD_ON_PEAK, 903},
+        {"off-peak", KOZEMPIL_CALL_ENERGY_PRICE + KOZEMPIL_PERIOD_OFF_PEAK, KOZEMPIL_ACCOUNT_ENERGY_PRICE + KOZEMPIL_PERIOD_OFF_PEAK, 902},
+        {"discount", KOZEMPIL_CALL_ENERGY_PRICE + KOZEMPIL_PERIOD_DISCOUNT, KOZEMPIL_ACCOUNT_ENERGY_PRICE + KOZEMPIL_PERIOD_DISCOUNT, 901},
+        {"demand", KOZEMPIL_CALL_DEMAND_PRICE, KOZEMPIL_ACCOUNT_DEMAND_PRICE, 10},
+        {"standby", KOZEMPIL_CALL_STANDBY_PRICE, KOZEMPIL_ACCOUNT_STANDBY_PRICE, 11},
+        {"bypass", KOZEMPIL_CALL_BYPASS_PRICE, KOZEMPIL_ACCOUNT_BYPASS_PRICE, 12},
+        {"credit", KOZEMPIL_CALL_CREDIT_PRICE, KOZEMPIL_ACCOUNT_CREDIT_PRICE, 13},
+        {"distribution", KOZEMPIL_CALL_DISTRIBUTION_PRICE, KOZEMPIL_ACCOUNT_DISTRIBUTION_PRICE, 14},
         {"basic", KOZEMPIL_CALL_BASIC, KOZEMPIL_ACCOUNT_BASIC, 15},
         {"minimum", KOZEMPIL_CALL_MINIMUM, KOZEMPIL_ACCOUNT_MINIMUM, 16},
         {"first month", KOZEMPIL_CALL_FIRST_MONTH, KOZEMPIL_ACCOUNT_NEXT, 17},
     };
 
     clear();
-    call[KOZEMPIL_CALL_KIND] = KOZEMPIL_OPENING;
+    call[KOZEMPIL_CALL_KIND] = KOZEMPIL_KIND_OPENING;
     for (size_t i = 0; i < sizeof places / sizeof *places; i++)
         call[places[i].call] = places[i].value;
     same("opening", number(), KOZEMPIL_ACCEPTED);
     for (size_t i = 0; i < sizeof places / sizeof *places; i++)
         same(places[i].name, after[places[i].account], places[i].value);
-    same("opened", after[KOZEMPIL_ACCOUNT_STAGE], KOZEMPIL_OPEN);
+    same("opened", after[KOZEMPIL_ACCOUNT_STAGE], KOZEMPIL_STAGE_OPEN);
 
     open_home();
-    account[KOZEMPIL_ACCOUNT_CARRIED + KOZEMPIL_CRITICAL] = 81;
-    account[KOZEMPIL_ACCOUNT_CARRIED + KOZEMPIL_ON_PEAK] = 82;
-    account[KOZEMPIL_ACCOUNT_CARRIED + KOZEMPIL_OFF_PEAK] = 83;
-    account[KOZEMPIL_ACCOUNT_CARRIED + KOZEMPIL_DISCOUNT] = 84;
+    account[KOZEMPIL_ACCOUNT_CARRIED + KOZEMPIL_PERIOD_CRITICAL] = 81;
+    account[KOZEMPIL_ACCOUNT_CARRIED + KOZEMPIL_PERIOD_ON_PEAK] = 82;
+    account[KOZEMPIL_ACCOUNT_CARRIED + KOZEMPIL_PERIOD_OFF_PEAK] = 83;
+    account[KOZEMPIL_ACCOUNT_CARRIED + KOZEMPIL_PERIOD_DISCOUNT] = 84;
     account[KOZEMPIL_ACCOUNT_STANDING] = 85;
     ask_to_close();
     same("closing", number(), KOZEMPIL_ACCEPTED);
-    same("closed", after[KOZEMPIL_ACCOUNT_STAGE], KOZEMPIL_CLOSED);
-    for (int period = KOZEMPIL_CRITICAL; period <= KOZEMPIL_DISCOUNT; period++) {
+    same("closed", after[KOZEMPIL_ACCOUNT_STAGE], KOZEMPIL_STAGE_CLOSED);
+    for (int period = KOZEMPIL_PERIOD_CRITICAL; period <= KOZEMPIL_PERIOD_DISCOUNT; period++) {
         same("forfeited by a closing", answer[KOZEMPIL_ANSWER_CLOSING_FORFEITED + period], 81 + (uint64_t)period);
         same("carried after a closing", after[KOZEMPIL_ACCOUNT_CARRIED + period], 0);
     }
@@ -149,10 +149,10 @@ static void codes_and_places_of_an_opening(void)
     same("standing after a closing", after[KOZEMPIL_ACCOUNT_STANDING], 0);
 
     open_home();
-    call[KOZEMPIL_CALL_KIND] = KOZEMPIL_REPRICING;
-    call[KOZEMPIL_CALL_ENERGY + KOZEMPIL_CRITICAL] = 1;
+    call[KOZEMPIL_CALL_KIND] = KOZEMPIL_KIND_REPRICING;
+    call[KOZEMPIL_CALL_ENERGY_PRICE + KOZEMPIL_PERIOD_CRITICAL] = 1;
     same("repricing", number(), KOZEMPIL_ACCEPTED);
-    same("repriced", after[KOZEMPIL_ACCOUNT_ENERGY + KOZEMPIL_CRITICAL], 1);
+    same("repriced", after[KOZEMPIL_ACCOUNT_ENERGY_PRICE + KOZEMPIL_PERIOD_CRITICAL], 1);
 }
 
 /* Banked, January 2000, day 1 critical. Delivered: 8,000 Wh critical, 4,000 on-peak, 6,000 off-peak, 10,000 discount. Received: 16,000 Wh on-peak
@@ -181,10 +181,10 @@ static void rows_of_a_banked_bill(void)
     };
 
     open_home();
-    account[KOZEMPIL_ACCOUNT_DEMAND] = 5000;
+    account[KOZEMPIL_ACCOUNT_DEMAND_PRICE] = 5000;
     account[KOZEMPIL_ACCOUNT_BASIC] = 1400;
-    account[KOZEMPIL_ACCOUNT_CARRIED + KOZEMPIL_CRITICAL] = 1000;
-    account[KOZEMPIL_ACCOUNT_CARRIED + KOZEMPIL_DISCOUNT] = 2000;
+    account[KOZEMPIL_ACCOUNT_CARRIED + KOZEMPIL_PERIOD_CRITICAL] = 1000;
+    account[KOZEMPIL_ACCOUNT_CARRIED + KOZEMPIL_PERIOD_DISCOUNT] = 2000;
     delivered[PEAK] = 8000;
     delivered[96 + PEAK] = 4000;
     delivered[OFF] = 6000;
@@ -193,7 +193,7 @@ static void rows_of_a_banked_bill(void)
     ask_to_bill(JANUARY, 1);
     same("banked bill", number(), KOZEMPIL_ACCEPTED);
     for (size_t row = 0; row < sizeof rows / sizeof *rows; row++)
-        for (int period = KOZEMPIL_CRITICAL; period <= KOZEMPIL_DISCOUNT; period++)
+        for (int period = KOZEMPIL_PERIOD_CRITICAL; period <= KOZEMPIL_PERIOD_DISCOUNT; period++)
             same("row of a banked bill", answer[rows[row][0] + (uint64_t)period], rows[row][1 + period]);
     same("energy", answer[KOZEMPIL_ANSWER_ENERGY], 300);
     same("demand", answer[KOZEMPIL_ANSWER_DEMAND], 160);
@@ -204,13 +204,13 @@ static void rows_of_a_banked_bill(void)
     /* June: what is carried is forfeited, and what June exports is left. June 2000 has 30 days. */
     open_home();
     account[KOZEMPIL_ACCOUNT_NEXT] = JUNE;
-    account[KOZEMPIL_ACCOUNT_CARRIED + KOZEMPIL_OFF_PEAK] = 5000;
+    account[KOZEMPIL_ACCOUNT_CARRIED + KOZEMPIL_PERIOD_OFF_PEAK] = 5000;
     received[CHEAP] = 700;
     ask_to_bill(JUNE, 0);
     same("June", number_with(30 * 96), KOZEMPIL_ACCEPTED);
-    same("forfeited", answer[KOZEMPIL_ANSWER_FORFEITED + KOZEMPIL_OFF_PEAK], 5000);
-    same("left", answer[KOZEMPIL_ANSWER_LEFT + KOZEMPIL_DISCOUNT], 700);
-    same("carried after June", after[KOZEMPIL_ACCOUNT_CARRIED + KOZEMPIL_DISCOUNT], 700);
+    same("forfeited", answer[KOZEMPIL_ANSWER_FORFEITED + KOZEMPIL_PERIOD_OFF_PEAK], 5000);
+    same("left", answer[KOZEMPIL_ANSWER_LEFT + KOZEMPIL_PERIOD_DISCOUNT], 700);
+    same("carried after June", after[KOZEMPIL_ACCOUNT_CARRIED + KOZEMPIL_PERIOD_DISCOUNT], 700);
 }
 
 /* Bridge, a home of 8,001 W: assisted, and too large to be exempt. Delivered 100,000 Wh off-peak; received 10,000 Wh on-peak, which move to
@@ -220,13 +220,13 @@ static void rows_of_a_banked_bill(void)
 static void lines_of_a_bridge_bill(void)
 {
     open_home();
-    account[KOZEMPIL_ACCOUNT_RIDER] = KOZEMPIL_BRIDGE;
+    account[KOZEMPIL_ACCOUNT_RIDER] = KOZEMPIL_RIDER_BRIDGE;
     account[KOZEMPIL_ACCOUNT_NAMEPLATE] = 8001;
-    account[KOZEMPIL_ACCOUNT_LIMIT] = 9000;
-    account[KOZEMPIL_ACCOUNT_ASSISTED] = 1;
-    account[KOZEMPIL_ACCOUNT_BYPASS] = 50000;
-    account[KOZEMPIL_ACCOUNT_CREDIT] = 3350;
-    account[KOZEMPIL_ACCOUNT_DISTRIBUTION] = 4493;
+    account[KOZEMPIL_ACCOUNT_DEMAND_LIMIT] = 9000;
+    account[KOZEMPIL_ACCOUNT_ASSISTED] = KOZEMPIL_ASSISTED;
+    account[KOZEMPIL_ACCOUNT_BYPASS_PRICE] = 50000;
+    account[KOZEMPIL_ACCOUNT_CREDIT_PRICE] = 3350;
+    account[KOZEMPIL_ACCOUNT_DISTRIBUTION_PRICE] = 4493;
     account[KOZEMPIL_ACCOUNT_BASIC] = 1400;
     account[KOZEMPIL_ACCOUNT_MINIMUM] = 2200;
     account[KOZEMPIL_ACCOUNT_STANDING] = 30;
@@ -235,7 +235,7 @@ static void lines_of_a_bridge_bill(void)
     received[CHEAP] = 200000;
     ask_to_bill(JANUARY, 0);
     same("bridge bill", number(), KOZEMPIL_ACCEPTED);
-    same("paid", answer[KOZEMPIL_ANSWER_PAID + KOZEMPIL_DISCOUNT], 200000);
+    same("paid", answer[KOZEMPIL_ANSWER_PAID + KOZEMPIL_PERIOD_DISCOUNT], 200000);
     same("energy", answer[KOZEMPIL_ANSWER_ENERGY], 1800);
     same("bypass", answer[KOZEMPIL_ANSWER_BYPASS], 400);
     same("shortfall", answer[KOZEMPIL_ANSWER_SHORTFALL], 396);
@@ -245,10 +245,20 @@ static void lines_of_a_bridge_bill(void)
     same("due", answer[KOZEMPIL_ANSWER_DUE], 3296);
     same("standing", answer[KOZEMPIL_ANSWER_STANDING], 0);
 
+    same("credit", answer[KOZEMPIL_ANSWER_CREDIT + KOZEMPIL_PERIOD_DISCOUNT], 200000);
+    same("moved out", answer[KOZEMPIL_ANSWER_MOVED_OUT + KOZEMPIL_PERIOD_DISCOUNT], 0);
+
+    /* A home of 8,000 W that isn't assisted: bypass 400, and the same shortfall. */
+    account[KOZEMPIL_ACCOUNT_ASSISTED] = KOZEMPIL_NOT_ASSISTED;
+    account[KOZEMPIL_ACCOUNT_NAMEPLATE] = 8000;
+    same("bridge bill of a customer who isn't assisted", number(), KOZEMPIL_ACCEPTED);
+    same("bypass", answer[KOZEMPIL_ANSWER_BYPASS], 400);
+    same("shortfall", answer[KOZEMPIL_ANSWER_SHORTFALL], 396);
+
     /* Assisted up to 8,000 W: no shortfall. Nothing is delivered, so gross is basic and bypass, 1,400 + 400, of which the money covers 1,800
      * of 2,000 + 30 standing and granted: 200,000 x 10,000 is 2,000 cents. */
-    account[KOZEMPIL_ACCOUNT_NAMEPLATE] = 8000;
-    account[KOZEMPIL_ACCOUNT_CREDIT] = 10000;
+    account[KOZEMPIL_ACCOUNT_ASSISTED] = KOZEMPIL_ASSISTED;
+    account[KOZEMPIL_ACCOUNT_CREDIT_PRICE] = 10000;
     delivered[OFF] = 0;
     received[PEAK] = 0;
     same("bridge bill of an exempt customer", number(), KOZEMPIL_ACCEPTED);
@@ -259,10 +269,10 @@ static void lines_of_a_bridge_bill(void)
 
     /* A business of 200,000 W pays standby: at 5,000 that is 1,000 cents. */
     open_home();
-    account[KOZEMPIL_ACCOUNT_CLASS] = KOZEMPIL_BUSINESS;
+    account[KOZEMPIL_ACCOUNT_CLASS] = KOZEMPIL_CLASS_BUSINESS;
     account[KOZEMPIL_ACCOUNT_NAMEPLATE] = 200000;
-    account[KOZEMPIL_ACCOUNT_LIMIT] = 200000;
-    account[KOZEMPIL_ACCOUNT_STANDBY] = 5000;
+    account[KOZEMPIL_ACCOUNT_DEMAND_LIMIT] = 200000;
+    account[KOZEMPIL_ACCOUNT_STANDBY_PRICE] = 5000;
     ask_to_bill(JANUARY, 0);
     same("bill of a business", number(), KOZEMPIL_ACCEPTED);
     same("standby", answer[KOZEMPIL_ANSWER_STANDBY], 1000);
@@ -272,17 +282,17 @@ static void refusals_and_limits(void)
 {
     /* 1, 2, 3 */
     clear();
-    account[KOZEMPIL_ACCOUNT_STAGE] = KOZEMPIL_FRESH;
+    account[KOZEMPIL_ACCOUNT_STAGE] = KOZEMPIL_STAGE_FRESH;
     ask_to_close();
     same("not open", number(), KOZEMPIL_REFUSED_NOT_OPEN);
     ask_to_open();
-    account[KOZEMPIL_ACCOUNT_STAGE] = KOZEMPIL_OPEN;
+    account[KOZEMPIL_ACCOUNT_STAGE] = KOZEMPIL_STAGE_OPEN;
     same("open already", number(), KOZEMPIL_REFUSED_OPEN_ALREADY);
-    account[KOZEMPIL_ACCOUNT_STAGE] = KOZEMPIL_CLOSED;
+    account[KOZEMPIL_ACCOUNT_STAGE] = KOZEMPIL_STAGE_CLOSED;
     same("closed", number(), KOZEMPIL_REFUSED_CLOSED);
     open_home();
     ask_to_close();
-    for (int period = KOZEMPIL_CRITICAL; period <= KOZEMPIL_DISCOUNT; period++) {
+    for (int period = KOZEMPIL_PERIOD_CRITICAL; period <= KOZEMPIL_PERIOD_DISCOUNT; period++) {
         account[KOZEMPIL_ACCOUNT_CARRIED + period] = KOZEMPIL_CARRIED_LIMIT;
         same("all that can be carried", number(), KOZEMPIL_ACCEPTED);
         account[KOZEMPIL_ACCOUNT_CARRIED + period] = KOZEMPIL_CARRIED_LIMIT + 1;
@@ -295,10 +305,10 @@ static void refusals_and_limits(void)
     same("too much standing", number(), KOZEMPIL_REFUSED_CLOSED);
 
     /* 4: each price and amount at its limit, and one more. The energy prices fall. */
-    for (int place = KOZEMPIL_CALL_ENERGY; place <= KOZEMPIL_CALL_MINIMUM; place++) {
+    for (int place = KOZEMPIL_CALL_ENERGY_PRICE; place <= KOZEMPIL_CALL_MINIMUM; place++) {
         uint64_t limit = place < KOZEMPIL_CALL_BASIC ? KOZEMPIL_PRICE_LIMIT : KOZEMPIL_AMOUNT_LIMIT;
         ask_to_open();
-        for (int before = KOZEMPIL_CALL_ENERGY; before < place && place < KOZEMPIL_CALL_DEMAND; before++)
+        for (int before = KOZEMPIL_CALL_ENERGY_PRICE; before < place && place < KOZEMPIL_CALL_DEMAND_PRICE; before++)
             call[before] = limit;
         call[place] = limit;
         same("price at its limit", number(), KOZEMPIL_ACCEPTED);
@@ -308,17 +318,17 @@ static void refusals_and_limits(void)
 
     /* 5, 6, 7 */
     ask_to_open();
-    call[KOZEMPIL_CALL_LIMIT] = KOZEMPIL_BUSINESS_LIMIT + 1;
+    call[KOZEMPIL_CALL_DEMAND_LIMIT] = KOZEMPIL_BUSINESS_LIMIT + 1;
     call[KOZEMPIL_CALL_NAMEPLATE] = KOZEMPIL_HOME_LIMIT;
     same("largest home", number(), KOZEMPIL_ACCEPTED);
     call[KOZEMPIL_CALL_NAMEPLATE] = KOZEMPIL_HOME_LIMIT + 1;
     same("home above its limit", number(), KOZEMPIL_REFUSED_CAPACITY);
-    call[KOZEMPIL_CALL_CLASS] = KOZEMPIL_BUSINESS;
+    call[KOZEMPIL_CALL_CLASS] = KOZEMPIL_CLASS_BUSINESS;
     call[KOZEMPIL_CALL_NAMEPLATE] = KOZEMPIL_BUSINESS_LIMIT;
     same("largest business", number(), KOZEMPIL_ACCEPTED);
-    call[KOZEMPIL_CALL_RIDER] = KOZEMPIL_BRIDGE;
+    call[KOZEMPIL_CALL_RIDER] = KOZEMPIL_RIDER_BRIDGE;
     same("bridge for a business", number(), KOZEMPIL_REFUSED_NO_BRIDGE);
-    call[KOZEMPIL_CALL_RIDER] = KOZEMPIL_BANKED;
+    call[KOZEMPIL_CALL_RIDER] = KOZEMPIL_RIDER_BANKED;
     call[KOZEMPIL_CALL_NAMEPLATE] = KOZEMPIL_BUSINESS_LIMIT + 1;
     same("business above its limit", number(), KOZEMPIL_REFUSED_CAPACITY);
     ask_to_open();
@@ -356,48 +366,61 @@ static void refusals_and_limits(void)
 }
 
 /* A list: an opening, a billing that takes its readings from the registers, and a record that is no call. */
-static uint64_t list[4 * KOZEMPIL_CALL];
-static uint64_t answers[4 * KOZEMPIL_ANSWER];
+static uint64_t list[4 * KOZEMPIL_CALL_LENGTH];
+static uint64_t answers[4 * KOZEMPIL_ANSWER_LENGTH];
 
 static void lists_and_counts(void)
 {
-    uint64_t *billing = list + KOZEMPIL_CALL;
+    uint64_t *billing = list + KOZEMPIL_CALL_LENGTH;
     struct kozempil_counts counts;
 
     ask_to_open();
-    call[KOZEMPIL_CALL_ENERGY + KOZEMPIL_CRITICAL] = 20000;
-    call[KOZEMPIL_CALL_ENERGY + KOZEMPIL_ON_PEAK] = 20000;
-    call[KOZEMPIL_CALL_ENERGY + KOZEMPIL_OFF_PEAK] = 20000;
+    call[KOZEMPIL_CALL_ENERGY_PRICE + KOZEMPIL_PERIOD_CRITICAL] = 20000;
+    call[KOZEMPIL_CALL_ENERGY_PRICE + KOZEMPIL_PERIOD_ON_PEAK] = 20000;
+    call[KOZEMPIL_CALL_ENERGY_PRICE + KOZEMPIL_PERIOD_OFF_PEAK] = 20000;
     memcpy(list, call, sizeof call);
-    billing[KOZEMPIL_CALL_KIND] = KOZEMPIL_BILLING;
-    billing[KOZEMPIL_CALL_DELIVERED] = LENGTH;
-    billing[KOZEMPIL_CALL_RECEIVED] = LENGTH;
-    list[2 * KOZEMPIL_CALL] = KOZEMPIL_CLOSING + 1;
+    billing[KOZEMPIL_CALL_KIND] = KOZEMPIL_KIND_BILLING;
+    billing[KOZEMPIL_CALL_DELIVERED_COUNT] = LENGTH;
+    billing[KOZEMPIL_CALL_RECEIVED_COUNT] = LENGTH;
+    list[2 * KOZEMPIL_CALL_LENGTH] = KOZEMPIL_KIND_CLOSING + 1;
     delivered[OFF] = 5000; /* at 20,000: 100 cents */
 
-    counts = kozempil_run(list, 3 * KOZEMPIL_CALL, delivered, LENGTH, received, LENGTH, answers, sizeof answers / 8, after, KOZEMPIL_ACCOUNT);
+    counts = kozempil_run(list, 3 * KOZEMPIL_CALL_LENGTH, delivered, LENGTH, received, LENGTH, answers, sizeof answers / 8,
+                          after, KOZEMPIL_ACCOUNT_LENGTH);
     same("answered", counts.answered, 2);
     same("written", counts.written, 2);
-    same("billed in a list", answers[KOZEMPIL_ANSWER + KOZEMPIL_ANSWER_ENERGY], 100);
+    same("billed in a list", answers[KOZEMPIL_ANSWER_LENGTH + KOZEMPIL_ANSWER_ENERGY], 100);
     same("next month", after[KOZEMPIL_ACCOUNT_NEXT], 1);
-    counts = kozempil_run(list, 2 * KOZEMPIL_CALL - 1, delivered, LENGTH, received, LENGTH, NONE, after, KOZEMPIL_ACCOUNT);
+    counts = kozempil_run(list, 2 * KOZEMPIL_CALL_LENGTH - 1, delivered, LENGTH, received, LENGTH, NONE, after, KOZEMPIL_ACCOUNT_LENGTH);
     same("answered without the last", counts.answered, 1);
     same("none written", counts.written, 0);
-    counts = kozempil_run(list, 2 * KOZEMPIL_CALL, delivered, LENGTH, received, LENGTH, answers, 2 * KOZEMPIL_ANSWER - 1, NONE);
+    counts = kozempil_run(list, 2 * KOZEMPIL_CALL_LENGTH, delivered, LENGTH, received, LENGTH, answers, 2 * KOZEMPIL_ANSWER_LENGTH - 1, NONE);
     same("answered with a short buffer", counts.answered, 2);
     same("one written", counts.written, 1);
-    billing[KOZEMPIL_CALL_DELIVERED] = LENGTH - 1;
-    kozempil_run(list, 2 * KOZEMPIL_CALL, delivered, LENGTH, received, LENGTH, answers, sizeof answers / 8, NONE);
-    same("one delivered reading fewer", answers[KOZEMPIL_ANSWER], KOZEMPIL_REFUSED_REGISTER_LENGTH);
-    billing[KOZEMPIL_CALL_DELIVERED] = LENGTH;
-    billing[KOZEMPIL_CALL_RECEIVED] = LENGTH - 1;
-    kozempil_run(list, 2 * KOZEMPIL_CALL, delivered, LENGTH, received, LENGTH, answers, sizeof answers / 8, NONE);
-    same("one received reading fewer", answers[KOZEMPIL_ANSWER], KOZEMPIL_REFUSED_REGISTER_LENGTH);
-    billing[KOZEMPIL_CALL_RECEIVED] = LENGTH;
+    billing[KOZEMPIL_CALL_DELIVERED_COUNT] = LENGTH - 1;
+    kozempil_run(list, 2 * KOZEMPIL_CALL_LENGTH, delivered, LENGTH, received, LENGTH, answers, sizeof answers / 8, NONE);
+    same("one delivered reading fewer", answers[KOZEMPIL_ANSWER_LENGTH], KOZEMPIL_REFUSED_REGISTER_LENGTH);
+    billing[KOZEMPIL_CALL_DELIVERED_COUNT] = LENGTH;
+    billing[KOZEMPIL_CALL_RECEIVED_COUNT] = LENGTH - 1;
+    kozempil_run(list, 2 * KOZEMPIL_CALL_LENGTH, delivered, LENGTH, received, LENGTH, answers, sizeof answers / 8, NONE);
+    same("one received reading fewer", answers[KOZEMPIL_ANSWER_LENGTH], KOZEMPIL_REFUSED_REGISTER_LENGTH);
 
-    counts = kozempil_run(NONE, NONE, NONE, NONE, after, KOZEMPIL_ACCOUNT);
+    /* A first billing takes one delivered reading and no received one, and is refused; the second takes what follows. */
+    memcpy(list + 2 * KOZEMPIL_CALL_LENGTH, billing, KOZEMPIL_CALL_LENGTH * sizeof *list);
+    billing[KOZEMPIL_CALL_DELIVERED_COUNT] = 1;
+    billing[KOZEMPIL_CALL_RECEIVED_COUNT] = 0;
+    list[2 * KOZEMPIL_CALL_LENGTH + KOZEMPIL_CALL_RECEIVED_COUNT] = LENGTH;
+    counts = kozempil_run(list, 3 * KOZEMPIL_CALL_LENGTH, delivered, LENGTH + 1, received, LENGTH, answers, sizeof answers / 8, NONE);
+    same("all answered", counts.answered, 3);
+    same("one delivered reading", answers[KOZEMPIL_ANSWER_LENGTH], KOZEMPIL_REFUSED_REGISTER_LENGTH);
+    same("the readings after it", answers[2 * KOZEMPIL_ANSWER_LENGTH], KOZEMPIL_ACCEPTED);
+    billing[KOZEMPIL_CALL_DELIVERED_COUNT] = LENGTH;
+    billing[KOZEMPIL_CALL_RECEIVED_COUNT] = LENGTH;
+    list[2 * KOZEMPIL_CALL_LENGTH] = KOZEMPIL_KIND_CLOSING + 1;
+
+    counts = kozempil_run(NONE, NONE, NONE, NONE, after, KOZEMPIL_ACCOUNT_LENGTH);
     same("nothing lent, nothing answered", counts.answered + counts.written, 0);
-    same("fresh", after[KOZEMPIL_ACCOUNT_STAGE], KOZEMPIL_FRESH);
+    same("fresh", after[KOZEMPIL_ACCOUNT_STAGE], KOZEMPIL_STAGE_FRESH);
     same("no account, no call", kozempil_call(NONE, NONE, NONE, NONE, NONE, NONE), 0);
 }
 
@@ -405,15 +428,23 @@ static void views_and_texts(void)
 {
     static const char input[] = "opens=2001-02\nrider=banked\n";
     uint8_t text[16];
-    uint64_t part[2];
+    uint64_t part[KOZEMPIL_VIEW_LENGTH + 1];
 
     clear();
-    kozempil_day_view(delivered, LENGTH, received, LENGTH, JANUARY, 2, 1, part, 2);
-    same("start of day 2", part[0], 96);
-    same("length of day 2", part[1], 96);
-    kozempil_day_view(NONE, NONE, JANUARY, 2, 1, part, 2);
-    same("start of no day", part[0], 0);
-    same("length of no day", part[1], 0);
+    memset(part, 0xff, sizeof part);
+    kozempil_day_view(delivered, LENGTH, received, LENGTH, JANUARY, 3, KOZEMPIL_RECEIVED, part, KOZEMPIL_VIEW_LENGTH + 1);
+    same("numbers of a view", (part[KOZEMPIL_VIEW_LENGTH - 1] != UINT64_MAX) + 2 * (part[KOZEMPIL_VIEW_LENGTH] == UINT64_MAX), 3);
+    same("start of day 3", part[KOZEMPIL_VIEW_START], 192);
+    same("length of day 3", part[KOZEMPIL_VIEW_COUNT], 96);
+    kozempil_day_view(delivered, LENGTH, received, LENGTH, JANUARY, 3, KOZEMPIL_DELIVERED, part, KOZEMPIL_VIEW_LENGTH);
+    same("length of delivered", part[KOZEMPIL_VIEW_COUNT], 96);
+    kozempil_day_view(delivered, LENGTH, received, LENGTH, JANUARY, 3, KOZEMPIL_RECEIVED + 1, part, KOZEMPIL_VIEW_LENGTH);
+    same("start in no register", part[KOZEMPIL_VIEW_START], 0);
+    same("length in no register", part[KOZEMPIL_VIEW_COUNT], 0);
+    kozempil_day_view(delivered, LENGTH, received, LENGTH, JANUARY, 0, KOZEMPIL_RECEIVED, part, KOZEMPIL_VIEW_LENGTH);
+    same("length of day 0", part[KOZEMPIL_VIEW_COUNT], 0);
+    kozempil_day_view(NONE, NONE, JANUARY, 3, KOZEMPIL_RECEIVED, part, KOZEMPIL_VIEW_LENGTH);
+    same("length of no registers", part[KOZEMPIL_VIEW_COUNT], 0);
     kozempil_day_view(NONE, NONE, 0, 0, 0, NONE);
 
     /* The third line is absent. */
@@ -429,10 +460,10 @@ static void views_and_texts(void)
 /* The same list in several threads at once, each with answers of its own. */
 static void *run_often(void *wrong)
 {
-    uint64_t own[2 * KOZEMPIL_ANSWER];
+    uint64_t own[2 * KOZEMPIL_ANSWER_LENGTH];
     for (int i = 0; i < 50; i++) {
         memset(own, 0, sizeof own);
-        kozempil_run(list, 2 * KOZEMPIL_CALL, delivered, LENGTH, received, LENGTH, own, sizeof own / 8, NONE);
+        kozempil_run(list, 2 * KOZEMPIL_CALL_LENGTH, delivered, LENGTH, received, LENGTH, own, sizeof own / 8, NONE);
         *(uint64_t *)wrong += memcmp(own, answers, sizeof own) != 0;
     }
     return NULL;
@@ -444,7 +475,7 @@ static void threads(void)
     uint64_t wrong[4] = {0};
 
     lists_and_counts();
-    kozempil_run(list, 2 * KOZEMPIL_CALL, delivered, LENGTH, received, LENGTH, answers, sizeof answers / 8, NONE);
+    kozempil_run(list, 2 * KOZEMPIL_CALL_LENGTH, delivered, LENGTH, received, LENGTH, answers, sizeof answers / 8, NONE);
     for (int i = 0; i < 4; i++)
         pthread_create(&ids[i], NULL, run_often, &wrong[i]);
     for (int i = 0; i < 4; i++) {
