@@ -72,7 +72,7 @@ module _ (a : Account) where
   unfolding accountRow
   stage-here = refl
 
-  pub read-back : accountAt (accountRow a) ≡ a
+  read-back : accountAt (accountRow a) ≡ a
   unfolding accountAt
   read-back =
       rw (
@@ -89,7 +89,7 @@ module _ (a : Account) where
       )
 
   -- The next month of every account has 32 bits in the code, and so it is asked here.
-  pub known : a .next < 2 ^ 32 → isAccount (accountRow a) ≡ true
+  known : a .next < 2 ^ 32 → isAccount (accountRow a) ≡ true
   unfolding isAccount
   known h = rw (row-long, stage-here, stage-known (a .stage), terms-known-here, rest-here 0, lt-ltb (a .next) (2 ^ 32) h)
 
@@ -108,3 +108,7 @@ module _ (a : Account) where
         sets-append b 0 (stage ++ terms) prices,
         before-prices,
       )
+
+-- What is written of an account is an account, and read back as that one.
+pub row-reads-back : (a : Account) → a .next < 2 ^ 32 → (isAccount (accountRow a) ≡ true) × (accountAt (accountRow a) ≡ a)
+row-reads-back a h = (known a h, read-back a)

@@ -21,7 +21,7 @@ use Rattle.balances.specs.Balances.{Balanced}
 use Rattle.ledger.specs.Encoding.{rowsOf}
 use Rattle.kozempil.specs.declared.Counts.{Counts}
 
--- Our rule: the layout of calls, answers and accounts has a version, which rises when a place is added or moved.
+-- Our rule: the layout of calls, answers and accounts has a version, which rises when a place, a code or a number is added or changed.
 abbrev pub layoutVersion : ℕ
 layoutVersion = 1
 
@@ -65,8 +65,7 @@ unfoldable pub isAccount : List ℕ → Bool
 isAccount w =
     eqb (length w) accountLength && leb (getD w stagePlace 0) 2 && knownTerms w termsPlace && ltb (getD w nextPlace 0) (2 ^ 32)
 
--- The account of a row. What is written of an account is read back as that account: theorems `read-back` and `known` of
--- proofs/Accounts.antt.
+-- The account of a row. What is written of an account is read back as that account: theorem `row-reads-back`.
 unfoldable pub accountAt : List ℕ → Account
 accountAt w =
     record {

@@ -16,7 +16,7 @@ ghost use Rattle.kozempil.specs.Interface.{isAccount, accountAt, ListAns
 use account::Account;
 use account::Stage;
 
-// Rises when a place of a call, an answer or an account is added or moved.
+// Rises when a place, a code or a number of calls, answers or accounts is added or changed.
 const LAYOUT: u32 = 1;
 
 // The row of an account: stage, terms, price list, next month, carried by period, standing money.
@@ -187,6 +187,7 @@ pub extern "C" fn kozempil_day_view(
     part: &mut [u64],
 )
     ensures { λ r. ⌜ now (part .exit) ≡ sets (now (part .entry)) 0 (partNumbers (viewOf (delivered .entry) (received .entry) month day number)) ⌝ }
+    ensures { λ r. ⌜ (now (delivered .exit) ≡ now (delivered .entry)) × (now (received .exit) ≡ now (received .entry)) ⌝ }
 {
     if registers::empty_view(delivered, received, month, day, number) {
         let numbers = [0u64, 0u64];

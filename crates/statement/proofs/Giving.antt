@@ -41,16 +41,21 @@ given-more {before} {x} {y} {b} {c} {out} {t = t} input taken room g h fed =
 
 -- All are; a session that isn't stopped goes on.
 pub given-all : {before current : SoFar} {input : List ℕ} {taken : ℕ} {stopped : Bool} → GivenSoFar before input taken current → length input ≤ taken
-    → stopped ≡ hasStopped (current .state) → Gives before input current (not stopped)
-given-all {input = input} {taken = taken} {stopped = stopped} g h e =
-    record { stands = λ _. rw (take-all taken input h) at (g .stands); unstopped = λ t. sym e ∙ not-true stopped t }
+    → stopped ≡ hasStopped (current .state) → Gives before input current false (not stopped)
+given-all {input = input} {taken = taken} g h e = record { stands = λ _. rw (take-all taken input h) at (g .stands); goes = ap not e }
 
--- Nothing is promised of a session that doesn't go on.
-pub given-up : {before current : SoFar} {input : List ℕ} → Gives before input current false
-given-up = record { stands = λ e. absurd (false-true e); unstopped = λ e. absurd (false-true e) }
-  where
-    false-true : false ≡ true → ⊥
-    false-true e = let z : _≡_ {A = ℕ} 0 1 = cc in omega arith
+-- Where a write failed, nothing is promised of the session.
+false-true : true ≡ false → ⊥
+false-true e = let z : _≡_ {A = ℕ} 0 1 = cc in omega arith
+
+pub given-up : {before current : SoFar} {input : List ℕ} → Gives before input current true false
+given-up = record { stands = λ e. absurd (false-true e); goes = refl }
+
+-- A session that goes on was given all bytes.
+pub goes-on : {before later : SoFar} {input : List ℕ} {failed going : Bool} → Gives before input later failed going → going ≡ true
+    → later ≡ after before input
+goes-on {failed = true} g e = absurd (false-true (sym e ∙ g .goes))
+goes-on {failed = false} g e = g .stands refl
 
 -- The session stands for bytes that came one after the other from the start. Which they are no contract of a read says.
 pub record Reached (current : SoFar) : Type 0 where

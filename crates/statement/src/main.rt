@@ -7,9 +7,11 @@ use libc::STDIN_FILENO;
 use libc::STDOUT_FILENO;
 use session::Session;
 
-// A session after bytes, and whether there is a point in reading on: no fault has stopped it, and its texts could be written.
+// A session after bytes, whether its texts could not be written, and whether there is a point in reading on: they could, and no fault has stopped
+// it.
 struct Given {
     session: Session,
+    failed: bool,
     going: bool,
 }
 
@@ -47,7 +49,7 @@ fn give(
     out: &mut [u8],
 ) -> Given
     requires { ⌜ 2048 ≤ length (now out) ⌝ }
-    ensures { λ r. ⌜ Gives (soFarOf session (lent (now (line .entry)) (now (delivered .entry)) (now (received .entry)))) (now (input .entry)) (soFarOf (r .session) (lent (now (line .exit)) (now (delivered .exit)) (now (received .exit)))) (r .going) ⌝ }
+    ensures { λ r. ⌜ Gives (soFarOf session (lent (now (line .entry)) (now (delivered .entry)) (now (received .entry)))) (now (input .entry)) (soFarOf (r .session) (lent (now (line .exit)) (now (delivered .exit)) (now (received .exit)))) (r .failed) (r .going) ⌝ }
 {
     let mut session = session;
     let mut taken = 0;
@@ -58,12 +60,14 @@ fn give(
         if !write_front(out, fed.written) {
             return Given {
                 session,
+                failed: true,
                 going: false,
             };
         }
     }
     Given {
         session,
+        failed: false,
         going: !session.is_stopped(),
     }
 }

@@ -21,8 +21,10 @@ returns : tie.Need-returns
 returns c =
     let asked = c .before .before .before .before .before in
     let at = asked .before .before .before .before .before .args in
-    rw (empty-numbers (at .delivered) (at .received) (at .month) (at .day) (at .number) (sym (asked .before .empty-view .ensures) ∙ asked .if1 .taken))
-    (c .before .before .write-numbers .ensures)
+    let same = sym (asked .before .empty-view .ensures) ∙ asked .if1 .taken in (
+      rw (empty-numbers (at .delivered) (at .received) (at .month) (at .day) (at .number) same) (c .before .before .write-numbers .ensures),
+      (refl, refl),
+    )
 
 sub-readings-through : tie.Need-sub-readings-through
 sub-readings-through c = viewed _ _ _ _ _ (sym (c .before .empty-view .ensures) ∙ c .if1 .left) .first
@@ -48,8 +50,10 @@ returns-2 c =
     let asked = day .before .before in
     let at = asked .before .before .before .before .before .args in
     let some = sym (asked .before .empty-view .ensures) ∙ asked .if1 .left in
-    rw (day-numbers (at .delivered) (at .received) (at .month) (at .day) (at .number) some _ _ (day .before .readings-through .ensures) (day .day-length .ensures))
-    (c .before .before .write-numbers2 .ensures)
+    let numbers = day-numbers (at .delivered) (at .received) (at .month) (at .day) (at .number) some _ _ (day .before .readings-through .ensures) (day .day-length .ensures) in (
+      rw numbers (c .before .before .write-numbers2 .ensures),
+      (refl, refl),
+    )
 
 pub kozempil-day-view-spec : {M : Type 1} → statement M
 kozempil-day-view-spec =

@@ -6,7 +6,7 @@ use borrow.Author.Needs.{needs}
 use borrow.Author.Tests.{not-false}
 use lib.ListN.{length, length-take}
 use Rattle.session.specs.Sessions.{lent, soFarOf}
-use Rattle.statement.proofs.Giving.{Reached, reached-none, reached-more}
+use Rattle.statement.proofs.Giving.{Reached, reached-none, reached-more, goes-on}
 use Rattle.statement.proofs.main.Statement.{statement}
 use Rattle.statement.proofs.main.Tie as tie
 
@@ -64,7 +64,7 @@ loop-again : tie.Need-loop-again Inv-loop μ-loop
 loop-again c =
     let made = c .before .before .before .before in
     let loop = made .before .before .before .before .before .before .before .before .before .before .before .before .loop in
-    (omega arith, omega arith, reached-more _ (loop .inv .2) (made .give .ensures .stands (not-false _ (c .before .if3 .left))))
+    (omega arith, omega arith, reached-more _ (loop .inv .2) (goes-on (made .give .ensures) (not-false _ (c .before .if3 .left))))
 
 slice-aggregate-finish : tie.Need-slice-aggregate-finish Inv-loop μ-loop
 slice-aggregate-finish c = omega arith
