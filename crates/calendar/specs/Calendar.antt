@@ -78,6 +78,6 @@ readingsThrough m (suc n) = readingsThrough m n + dayLength m (suc n)
 unfoldable pub monthLength : ℕ → ℕ
 monthLength m = readingsThrough m (daysIn m)
 
--- Our rule: no month has more readings than 31 days of 96.
+-- The most readings of a month: 31 days of 96 (`monthLength-le` of the laws).
 abbrev pub mostReadings : ℕ
 mostReadings = 31 * 96

@@ -11,7 +11,7 @@ use lib.ListN.{length}
 use Rattle.calendar.proofs.Below.{below}
 use Rattle.grammar.specs.Grammar.{openingLine}
 use Rattle.grammar.proofs.Laws.{opening-count, prices-count}
-use Rattle.lines.specs.Opening.{widthOfLine, placeOfLine, openingNumbers}
+use Rattle.lines.specs.Opening.{widthOfLine, placeOfLine, openingLength}
 
 -- Computed line by line: every line but that of the prices gives one number, none gives more than four, and each begins within the list.
 pub one-number : (k : ℕ) → k < 14 → (k ≡ 6 → ⊥) → widthOfLine k ≡ 1
@@ -22,8 +22,8 @@ one-number k h n =
 pub width-within : (k : ℕ) → k < 14 → widthOfLine k ≤ 4
 width-within k h = leb→le _ _ (below (λ k. leb (widthOfLine k) 4) 14 tt k h)
 
-pub place-within : (k : ℕ) → k < 14 → placeOfLine k < openingNumbers
-place-within k h = ltb→lt _ _ (below (λ k. ltb (placeOfLine k) openingNumbers) 14 tt k h)
+pub place-within : (k : ℕ) → k < 14 → placeOfLine k < openingLength
+place-within k h = ltb→lt _ _ (below (λ k. ltb (placeOfLine k) openingLength) 14 tt k h)
 
 -- A line gives none where it is unreadable, and otherwise as many as its width.
 by-count : (k n : ℕ) → k < 14 → (k ≡ 6 → ⊥) → n ≤ 1 → (n ≡ 0) ⊎ (n ≡ widthOfLine k)

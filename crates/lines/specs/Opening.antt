@@ -27,19 +27,19 @@ total (w ∷ ws) = w + total ws
 abbrev pub placeOfLine : ℕ → ℕ
 placeOfLine k = total (take k lineWidths)
 
-abbrev pub openingNumbers : ℕ
-openingNumbers = total lineWidths
+abbrev pub openingLength : ℕ
+openingLength = total lineWidths
 
 -- Of such a list xs, number i of line n, both counted from 1; and the first number of line n.
 abbrev pub numberAt : List ℕ → ℕ → ℕ → ℕ
 numberAt xs n i = getD xs (placeOfLine (n - 1) + (i - 1)) 0
 
-abbrev pub numberOfLine : List ℕ → ℕ → ℕ
-numberOfLine xs n = numberAt xs n 1
+abbrev pub firstOnLine : List ℕ → ℕ → ℕ
+firstOnLine xs n = numberAt xs n 1
 
 -- `opens`
 abbrev pub openingMonth : List ℕ → ℕ
-openingMonth xs = numberOfLine xs 1
+openingMonth xs = firstOnLine xs 1
 
 -- "Class is `home` or `business`, rider `banked` or `bridge`, assisted `yes` or `no`": `Grammar` gives 0 for `banked`, `home` and `no`, and 1
 -- for the other word.
@@ -53,11 +53,11 @@ classOf word = cond (eqb word 0) Home Business
 unfoldable pub openingTerms : List ℕ → Terms
 openingTerms xs =
     record {
-      rider = riderOf (numberOfLine xs 2);
-      class = classOf (numberOfLine xs 3);
-      nameplate = numberOfLine xs 4;
-      limit = numberOfLine xs 5;
-      assisted = eqb (numberOfLine xs 6) 1;
+      rider = riderOf (firstOnLine xs 2);
+      class = classOf (firstOnLine xs 3);
+      nameplate = firstOnLine xs 4;
+      limit = firstOnLine xs 5;
+      assisted = eqb (firstOnLine xs 6) 1;
     }
 
 -- `prices`, `demand`, `standby`, `bypass`, `credit`, `distribution`, `basic`, `minimum`
@@ -66,11 +66,11 @@ openingPrices xs =
     record {
       energy =
           record { critical = numberAt xs 7 1; onpeak = numberAt xs 7 2; offpeak = numberAt xs 7 3; discount = numberAt xs 7 4 };
-      demand = numberOfLine xs 8;
-      standby = numberOfLine xs 9;
-      bypass = numberOfLine xs 10;
-      credit = numberOfLine xs 11;
-      distribution = numberOfLine xs 12;
-      basic = numberOfLine xs 13;
-      minimum = numberOfLine xs 14;
+      demand = firstOnLine xs 8;
+      standby = firstOnLine xs 9;
+      bypass = firstOnLine xs 10;
+      credit = firstOnLine xs 11;
+      distribution = firstOnLine xs 12;
+      basic = firstOnLine xs 13;
+      minimum = firstOnLine xs 14;
     }

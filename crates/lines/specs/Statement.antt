@@ -12,7 +12,7 @@ use Rattle.account.specs.declared.BillingReply.{BillingReply}
 use Rattle.account.specs.Account.{freshAccount, openingReply, billingReply}
 use Rattle.grammar.specs.Grammar.{openingLine, billLine, criticalLine, runLine}
 use Rattle.printing.specs.Printing.{billText, openText, lineText}
-use Rattle.lines.specs.Opening.{placeOfLine, openingNumbers, openingMonth, openingTerms, openingPrices}
+use Rattle.lines.specs.Opening.{placeOfLine, openingLength, openingMonth, openingTerms, openingPrices}
 
 -- Of a month that is being read: its number, its critical days and its readings so far.
 pub record Month : Type 0 where
@@ -57,7 +57,7 @@ hasStopped s = ltb runExpected (s .expected)
 
 -- The state before the first line.
 abbrev pub start : State
-start = state 0 0 (replicate openingNumbers 0) freshAccount (monthOf 0 0 [] [])
+start = state 0 0 (replicate openingLength 0) freshAccount (monthOf 0 0 [] [])
 
 -- The state after a line, and what it prints.
 pub record Outcome : Type 0 where
@@ -118,8 +118,8 @@ unfoldable pub criticalRead : List ℕ → State → Outcome
 criticalRead v s = cond (isUnreadable v) (fault s) (outcome [] (withCritical (getD v 0 0) s))
 
 -- "any number of runs (count, delivered, received)": so many more readings of each register, in all at most 2,976.
-abbrev pub mostReadings : ℕ
-mostReadings = 2976
+abbrev pub runLimit : ℕ
+runLimit = 2976
 
 abbrev pub withRun : ℕ → ℕ → ℕ → State → State
 withRun count d e s =
@@ -130,7 +130,7 @@ withRun count d e s =
 
 unfoldable pub runRead : ℕ → ℕ → ℕ → State → Outcome
 runRead count d e s =
-    cond (ltb mostReadings (length (s .entered .delivered) + count)) (fault s) (outcome [] (withRun count d e s))
+    cond (ltb runLimit (length (s .entered .delivered) + count)) (fault s) (outcome [] (withRun count d e s))
 
 -- "for each month, when it is complete, the month as entered, its number, the seven energy rows by period .., energy and due; a refused
 -- month's amounts are 0"

@@ -10,7 +10,7 @@ use Rattle.text.specs.Text.{placeOf}
 use Rattle.grammar.specs.Grammar.{runLine}
 use Rattle.printing.specs.Writing.{hasRoom, Put}
 use Rattle.progress.specs.declared.Progress.{Progress}
-use Rattle.lines.specs.Statement.{State, state, monthOf, Outcome, isUnreadable, mostReadings, runExpected, hasStopped, lineRead, atEnd}
+use Rattle.lines.specs.Statement.{State, state, monthOf, Outcome, isUnreadable, runLimit, runExpected, hasStopped, lineRead, atEnd}
 use Rattle.lines.specs.Feeding.{Registers, withReadings}
 
 -- The readings of the month stand at the front of the two registers.
@@ -44,7 +44,7 @@ lineAt l = take (placeOf 10 l) l
 unfoldable pub isRun : List ℕ → ℕ → Bool
 isRun l filled =
     cond (eqb (placeOf 10 l) (length l)) false
-    (cond (isUnreadable (runLine (lineAt l))) false (leb (filled + getD (runLine (lineAt l)) 0 0) mostReadings))
+    (cond (isUnreadable (runLine (lineAt l))) false (leb (filled + getD (runLine (lineAt l)) 0 0) runLimit))
 
 unfoldable pub isRunExpected : List ℕ → State → Bool
 isRunExpected l s = eqb (s .expected) runExpected && isRun l (length (s .entered .delivered))

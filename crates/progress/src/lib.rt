@@ -575,7 +575,13 @@ impl Progress {
     }
 
     // The end of the input after a whole line: writes the text that is left, where there is room, and says where it ends.
-    pub fn finish(self, delivered: &[u32], received: &[u32], out: &mut [u8], at: usize) -> usize
+    pub fn finish(
+        self,
+        delivered: &[u32; 2976],
+        received: &[u32; 2976],
+        out: &mut [u8],
+        at: usize,
+    ) -> usize
         ensures { λ r. ⌜ Finishes (now (out .entry)) at (registersOf (now (delivered .entry)) (now (received .entry))) (stateOf self (now (delivered .entry)) (now (received .entry))) (registersOf (now (delivered .exit)) (now (received .exit))) (now (out .exit)) r ⌝ }
     {
         if self.expected == BILL_EXPECTED {

@@ -49,7 +49,7 @@ module _ (schedule : List ℕ) (m x : ℕ) (r : List ℕ) where
 abbrev pub readingLimit : ℕ
 readingLimit = 1000000
 
--- Our rule: what a month's register comes to at most, in Wh.
+-- What a month's register comes to at most, in Wh (`sum-within` of the laws).
 abbrev pub monthLimit : ℕ
 monthLimit = mostReadings * readingLimit
 

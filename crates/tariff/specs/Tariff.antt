@@ -40,7 +40,7 @@ unfoldable pub pricesRefused : PriceList → Bool
 pricesRefused l =
     someOver priceLimit (ninePrices l) || someOver amountLimit (l .basic ∷ l .minimum ∷ []) || pricesRise (l .energy)
 
--- The nameplate that each limit and each line speaks of, in W.
+-- The nameplate that the upper limits and each money line speak of, in W.
 unfoldable pub nameplateOf : Terms → ℕ
 nameplateOf t = t .nameplate
 

@@ -8,62 +8,46 @@ use Rattle.lines.proofs.Laws.{end-opened, end-stopped, end-month, end-absent}
 use borrow.Author.Needs.{needs}
 use Rattle.progress.proofs.Progress.finish.Statement.{statement}
 use Rattle.progress.proofs.Progress.finish.Tie as tie
-use Rattle.progress.proofs.Progress.finish.Reads as reads
-use Rattle.progress.proofs.Progress.finish.Lts as lts
-use Rattle.printing.proofs.put_bill.Reads as put-bill-reads
-use Rattle.printing.proofs.put_line.Reads as put-line-reads
-use Rattle.progress.proofs.bill.Reads as bill-reads
-use Rattle.progress.proofs.next_number.Reads as next-number-reads
 
--- src/lib.rt:383:13
 returns : tie.Need-returns
 returns c =
-    let st = c .before .before .before .before .before in
+    let st = c .before .before .before in
     let s = stateOf (st .args .self) (st .args .delivered .now) (st .args .received .now) in
     record { text = put-nothing (st .args .out .now) (st .args .at) (atEnd s) (end-opened s (c .if1 .taken)); registers = refl }
 
--- src/lib.rt:386:13
 returns-2 : tie.Need-returns-2
 returns-2 c =
-    let st = c .before .before .before .before .before .before .before in
+    let st = c .before .before .before .before .before in
     let s = stateOf (st .args .self) (st .args .delivered .now) (st .args .received .now) in
     record { text = put-nothing (st .args .out .now) (st .args .at) (atEnd s) (end-stopped s (c .before .before .if1 .left) (c .if2 .taken)); registers = refl }
 
--- src/lib.rt:389:17
 bill-requires : tie.Need-bill-requires
 bill-requires c κs = search needs
 
--- src/lib.rt:391:13
 put-bill-requires : tie.Need-put-bill-requires
 put-bill-requires c κs = search needs
 
--- src/lib.rt:391:13
 same-length : tie.Need-same-length
 same-length c = search needs
 
--- src/lib.rt:391:13
 returns-3 : tie.Need-returns-3
 returns-3 c =
     let st = c .before .before .before .before .before .before .before .before .before .before .before .before .before .before .before in
     let s = stateOf (st .args .self) (st .args .delivered .now) (st .args .received .now) in
-    record { text = puts-by _ _ _ _ _ _ (end-month s _ (c .before .before .before .before .before .bill .ensures) (c .before .before .before .before .before .before .before .before .before .before .if1 .left) (c .before .before .before .before .before .before .before .before .if2 .left) (c .before .before .before .before .before .before .if3 .taken)) (c .before .before .put-bill .ensures); registers = refl }
+    record { text = puts-by _ _ _ _ _ _ (end-month s _ (c .before .before .before .before .before .bill .ensures) (c .before .before .before .before .before .before .before .before .before .before .before .before .if1 .left) (c .before .before .before .before .before .before .before .before .before .before .if2 .left) (c .before .before .before .before .before .before .before .before .if3 .taken)) (c .before .before .put-bill .ensures); registers = refl }
 
--- src/lib.rt:393:37
 next-number-requires : tie.Need-next-number-requires
 next-number-requires c κs = search needs
 
--- src/lib.rt:393:9
 put-line-requires : tie.Need-put-line-requires
 put-line-requires c κs = search needs
 
--- src/lib.rt:379:5
 same-length-2 : tie.Need-same-length-2
 same-length-2 c = search needs
 
--- src/lib.rt:379:5
 returns-4 : tie.Need-returns-4
 returns-4 c =
-    let st = c .before .before .before .before .before .before .before .before .before .before .before .before .before .before in
+    let st = c .before .before .before .before .before .before .before .before .before .before .before .before in
     let s = stateOf (st .args .self) (st .args .delivered .now) (st .args .received .now) in
     record {
       text = puts-by _ _ _ _ _ _

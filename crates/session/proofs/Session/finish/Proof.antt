@@ -24,7 +24,7 @@ same-length c = search needs
 returns-2 : tie.Need-returns-2
 returns-2 c =
     let put = c .before .before in
-    let then = put .before .before .before .before .before .before in
+    let then = put .before .before .before .before in
     let least = then .before in
     let else = least .before .before in
     let args = else .before .before .args in
@@ -46,7 +46,7 @@ same-length-2 c = search needs
 returns-3 : tie.Need-returns-3
 returns-3 c =
     let put = c .before .before in
-    let read = put .before .before .before .before .before .before .before .before .before in
+    let read = put .before .before .before .before .before .before .before in
     let else = read .before .before .before .before .before in
     let least = else .before in
     let long = least .before .before in
