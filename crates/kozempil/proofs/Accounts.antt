@@ -72,27 +72,6 @@ module _ (a : Account) where
   unfolding accountRow
   stage-here = refl
 
-  read-back : accountAt (accountRow a) ≡ a
-  unfolding accountAt
-  read-back =
-      rw (
-        stage-here,
-        stage-back (a .stage),
-        terms-here,
-        prices-here,
-        rest-here 0,
-        rest-here 1,
-        rest-here 2,
-        rest-here 3,
-        rest-here 4,
-        rest-here 5,
-      )
-
-  -- The next month of every account has 32 bits in the code, and so it is asked here.
-  known : a .next < 2 ^ 32 → isAccount (accountRow a) ≡ true
-  unfolding isAccount
-  known h = rw (row-long, stage-here, stage-known (a .stage), terms-known-here, rest-here 0, lt-ltb (a .next) (2 ^ 32) h)
-
   -- The row is written part by part.
   pub row-written : (b c d e f : List ℕ) → c ≡ sets b 0 stage → d ≡ sets c termsPlace terms → e ≡ sets d pricesPlace prices
       → f ≡ sets e nextPlace rest → f ≡ sets b 0 (accountRow a)
@@ -109,6 +88,28 @@ module _ (a : Account) where
         before-prices,
       )
 
--- What is written of an account is an account, and read back as that one.
+-- What is written of an account is read back as that one,
+read-back : (a : Account) → accountAt (accountRow a) ≡ a
+unfolding accountAt
+read-back a =
+    rw (
+      stage-here a,
+      stage-back (a .stage),
+      terms-here a,
+      prices-here a,
+      rest-here a 0,
+      rest-here a 1,
+      rest-here a 2,
+      rest-here a 3,
+      rest-here a 4,
+      rest-here a 5,
+    )
+
+-- and is an account. The next month of every account has 32 bits in the code, and so it is asked here.
+known : (a : Account) → a .next < 2 ^ 32 → isAccount (accountRow a) ≡ true
+unfolding isAccount
+known a h =
+    rw (row-long a, stage-here a, stage-known (a .stage), terms-known-here a, rest-here a 0, lt-ltb (a .next) (2 ^ 32) h)
+
 pub row-reads-back : (a : Account) → a .next < 2 ^ 32 → (isAccount (accountRow a) ≡ true) × (accountAt (accountRow a) ≡ a)
 row-reads-back a h = (known a h, read-back a)
