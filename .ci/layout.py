@@ -8,8 +8,8 @@ import re
 
 from source import Unreadable, crates, declared, enter, finish, module_of, source
 
-FOLDERS = ("crates", "examples", "include", "harness", ".ci")
-MADE = re.compile(r"\.git|target|harness/(?:\w+/)?target|\.ci/__pycache__")  # by tools, and no part of the repository
+FOLDERS = ("crates", "examples", "include", "harness", "program", ".ci")
+MADE = re.compile(r"\.git|target|harness/(?:\w+/)?target|(?:\.ci|harness/use)/__pycache__")  # by tools, and no part of the repository
 FILES = re.compile(r"src/(?:\w+/)*\w+\.rt|(?:specs|proofs)/(?:[\w+]+/)*\w+\.antt|must-fail/\w+\.edit")
 RUN = re.compile(r"stdin|stdout|args|data/.+")
 

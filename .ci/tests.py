@@ -439,13 +439,13 @@ class Gate(unittest.TestCase):
     """The script `run` itself, with other programs in the place of those that it calls. Each of its parts can be made to fail."""
 
     SCRIPTS = ("layout", "contracts", "theorems", "tests", "refused")
-    PARTS = (*SCRIPTS, "fmt", "ci", "harness", "staticlib", "header", "built", "examples", "statement", "compared")
+    PARTS = (*SCRIPTS, "fmt", "ci", "harness", "staticlib", "header", "built", "program", "statement", "use", "compared")
     PROGRAMS = {  # each ends by naming its part
-        "bin/python3": 'set "$(basename "$1" .py)"',
+        "bin/python3": 'case $1 in harness/use/*) set use ;; *) set "$(basename "$1" .py)" ;; esac',
         "bin/rt": '[ "$1" != ci ] || { echo "rt: kozempil proved (1 s)"; sleep 0.1; echo "rt: statement proved (1 s)"; echo "2 passed, 0 failed"; }',
         "bin/cargo": 'case $PWD/$1 in */compare/run) set compared ;; */compare/*) set built ;; *) set harness ;; esac',
         "statement": "echo ok; set statement",
-        ".ci/examples": "set examples",
+        "program/build": 'case $1 in statement) set program ;; *) set staticlib ;; esac',
         ".ci/header": "set header",
         ".ci/temporary": "echo /tmp; set temporary",
     }
@@ -453,7 +453,7 @@ class Gate(unittest.TestCase):
     def setUp(self):
         self.root = tempfile.mkdtemp()
         self.addCleanup(shutil.rmtree, self.root)
-        for folder in ("bin", ".ci", "harness/compare", "examples"):
+        for folder in ("bin", ".ci", "harness/compare", "examples", "program"):
             os.makedirs(f"{self.root}/{folder}")
         shutil.copy(f"{HERE}/run", f"{self.root}/.ci/run")
         for name, text in self.PROGRAMS.items():

@@ -1,7 +1,8 @@
 /* Opens an account and bills a month, through include/kozempil.h.
  *
- *     rt staticlib kozempil
- *     cc -Iinclude examples/bill.c target/staticlib/libkozempil.a -o bill && ./bill
+ *     ./install FOLDER
+ *     export PKG_CONFIG_PATH=FOLDER/lib/pkgconfig
+ *     cc examples/bill.c $(pkg-config --cflags --libs kozempil) -o bill && ./bill
  *
  * The home takes 250 Wh in each of the 2,976 quarters of January 2000, 744 kWh, at 0.20 dollars per kWh in every period: 14,880 cents.
  * With the basic amount of 1,400 cents, 16,280 cents are due. The second list asks for February while January is next: refusal 7.

@@ -1,1 +1,4 @@
 mod Giving
+mod Lines
+mod Reaching
+mod Texts

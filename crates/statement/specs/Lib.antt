@@ -1,1 +1,2 @@
 pub mod Giving
+pub mod Status

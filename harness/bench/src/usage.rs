@@ -34,6 +34,9 @@ unsafe extern "C" {
 
 const CLOCK_THREAD_CPUTIME_ID: i32 = 3;
 
+/// A statement that has a refusal or stops at a line ends with a status of its own, up to this one; above it a run has failed.
+const HIGHEST_STATUS: i32 = 2;
+
 /// Waits until the child has ended; nothing where it fails.
 pub fn of(child: Child) -> io::Result<Option<Usage>> {
     let mut status = 0;
@@ -45,7 +48,8 @@ pub fn of(child: Child) -> io::Result<Option<Usage>> {
         return Err(io::Error::last_os_error());
     }
     let micros = |[seconds, micros]: Time| 1_000_000 * seconds as u64 + micros as u64;
-    Ok((status == 0).then_some(Usage {
+    let (signal, code) = (status & 0x7f, status >> 8);
+    Ok((signal == 0 && code <= HIGHEST_STATUS).then_some(Usage {
         time: Duration::from_micros(micros(used.user) + micros(used.system)),
         kibibytes: used.kibibytes,
     }))

@@ -42,7 +42,7 @@ impl Program {
         Ok(Program { path, scratch })
     }
 
-    /// What the program prints; an error where it doesn't end by itself and well.
+    /// What the program prints; an error where it doesn't end by itself, or with another status than what it prints has.
     pub fn run(&self, input: &[u8], feeding: Feeding) -> Result<Vec<u8>, String> {
         self.try_run(input, feeding)
             .map_err(|error| error.to_string())
@@ -69,13 +69,26 @@ impl Program {
         }
         let status = child.wait()?;
         let printed = printed?;
-        if !status.success() && !matches!(feeding, Feeding::Unread) {
+        if status.code() != Some(expected_status(&printed)) && !matches!(feeding, Feeding::Unread) {
             return Err(io::Error::other(format!("it ends with {status}")));
         }
         match fs::metadata(errors)?.len() {
             0 => Ok(printed),
             _ => Err(io::Error::other("it writes to standard error")),
         }
+    }
+}
+
+/// The exit status of a statement: 2 where it stopped at a line, else 1 where the opening or a month was refused.
+fn expected_status(printed: &[u8]) -> i32 {
+    let printed = String::from_utf8_lossy(printed);
+    let accepted = |line: &str| line == "open=0" || line.contains(" answer=0 ");
+    if printed.lines().any(|line| line.starts_with("line=")) {
+        2
+    } else if printed.lines().all(accepted) {
+        0
+    } else {
+        1
     }
 }
 

@@ -1,0 +1,6 @@
+pub mod Explaining
+pub mod Filling
+pub mod Numbers
+pub mod Reasons
+pub mod Table
+pub mod Writing
