@@ -5,7 +5,7 @@ use mathlib.Core.List.{List, [], _∷_, _++_, append-assoc, append-nil}
 use Prim.Native.Nat.{ℕ, zero, suc, _+_, _*_, _<_}
 use native.Mathlib.Omega.{arith}
 use lib.Dec.{eqb, lit≤}
-use lib.ListN.{length, getD, take, drop, replicate}
+use lib.ListN.{length, getD, replicate}
 use Rattle.text.specs.Text.{bytesOf}
 use Rattle.printing.specs.Text.{decimal}
 use Rattle.printing.specs.Writing.{Wrote}

@@ -1,6 +1,6 @@
 -- Tables written where there is room.
 use mathlib.Core.Path.{_≡_, refl, _∙_, sym, ap}
-use mathlib.Core.List.{List, [], _∷_, _++_}
+use mathlib.Core.List.{List, _∷_}
 use mathlib.Core.Bool.{Bool, true, false, not, cond}
 use Prim.Native.Nat.{ℕ, zero, suc, _+_, _-_, _≤_, _<_}
 use native.Mathlib.Numerals.{add-one, sub-one}

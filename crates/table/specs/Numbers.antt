@@ -1,14 +1,19 @@
 -- A printed line as its kind and its numbers. l is any line, with its newline or without, as the numbers of its bytes.
-use mathlib.Core.Bool.{Bool, true, false, cond}
+use mathlib.Core.Bool.{Bool, true, false, cond, _&&_}
 use mathlib.Core.List.{List, [], _∷_}
 use Prim.Native.Nat.{ℕ, zero, suc, _+_, _-_, _*_, min}
-use lib.Dec.{eqb}
+use lib.Dec.{eqb, leb}
 use lib.ListN.{getD}
 use Rattle.numerals.specs.Numerals.{isDigit}
 
 -- A number that 64 bits can't hold stays at their largest.
 abbrev pub capped : ℕ → ℕ
 capped n = min n 18446744073709551615
+
+-- Whether 64 bits hold each of some numbers.
+unfoldable pub allFit : List ℕ → Bool
+allFit [] = true
+allFit (n ∷ ns) = leb n 18446744073709551615 && allFit ns
 
 -- A digit is read after those of value v.
 unfoldable pub withDigit : ℕ → ℕ → ℕ

@@ -48,6 +48,11 @@ unfoldable pub column : ℕ → ℕ → ℕ → List ℕ
 column zero j n = []
 column (suc w) j n = column w (suc j) (columnRest j n) ++ columnByte j n ∷ []
 
+-- What is left of a number before those bytes.
+unfoldable pub leftOver : ℕ → ℕ → ℕ → ℕ
+leftOver zero j n = n
+leftOver (suc w) j n = leftOver w (suc j) (columnRest j n)
+
 -- A text at the right end of w bytes.
 abbrev pub rightIn : ℕ → List ℕ → List ℕ
 rightIn w text = replicate (w - length text) 32 ++ text

@@ -103,16 +103,16 @@ const REASON_BEGINS: [usize; 25] = [
 ];
 
 // The next number of a line, and where the rest of the line begins.
-pub struct Found {
-    pub value: u64,
-    pub next: usize,
+struct Found {
+    value: u64,
+    next: usize,
 }
 
 // A number in a column: so many bytes of it, the last of which has so many of the number after it.
-pub struct Shown {
-    pub value: u64,
-    pub width: usize,
-    pub place: usize,
+struct Shown {
+    value: u64,
+    width: usize,
+    place: usize,
 }
 
 fn is_digit(byte: u8) -> bool

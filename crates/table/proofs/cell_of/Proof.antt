@@ -1,5 +1,4 @@
 -- `table::cell_of` asks in the order of the definition.
-use native.Mathlib.Omega.{arith}
 use borrow.Author.Tests.{lt-ltb, le-ltb}
 use Rattle.table.specs.Table.{cellAt}
 use borrow.Author.Needs.{needs}

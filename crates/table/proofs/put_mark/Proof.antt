@@ -1,5 +1,4 @@
 -- `table::put_mark`: a number in decimal, or in a column.
-use mathlib.Core.Path.{_∙_}
 use Prim.Native.Nat.{_-_}
 use native.Mathlib.Omega.{arith}
 use borrow.Author.Tests.{lt-ltb, le-ltb}

@@ -1,5 +1,4 @@
 -- `table::shown_in` asks in the order of the definition.
-use native.Mathlib.Omega.{arith}
 use borrow.Author.Tests.{lt-ltb, le-ltb, eq-eqb, ne-eqb}
 use Rattle.table.specs.Filling.{shownOf}
 use borrow.Author.Needs.{needs}

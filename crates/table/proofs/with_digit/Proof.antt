@@ -1,5 +1,4 @@
 -- `table::with_digit` asks before it multiplies.
-use native.Mathlib.Omega.{arith}
 use Rattle.table.proofs.Numbers.{digit-bounds, digit-over, digit-fits}
 use borrow.Author.Needs.{needs}
 use Rattle.table.proofs.with_digit.Statement.{statement}
