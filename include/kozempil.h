@@ -204,7 +204,8 @@ uint32_t kozempil_call(
     uint64_t *answer, size_t answer_len,
     uint64_t *after, size_t after_len);
 
-/* How many readings a register of a month has: 96 for each of its days. Months above the last one follow the same calendar. */
+/* How many readings a register of a month has: 96 for each of its days; from 2007 on 4 fewer in March and 4 more in November,
+ * when the clocks change. Months above the last one follow the same rules. */
 uint64_t kozempil_register_length(uint32_t month);
 
 /* Writes where the readings of one day are in a register. There are none where the month is above the last one, the day isn't in the month

@@ -340,10 +340,13 @@ static void refusals_and_limits(void)
     ask_to_bill(JANUARY + 1, 0);
     same("another month", number(), KOZEMPIL_REFUSED_MONTH);
 
-    /* 8: the length of each month of the first years. 9, 10, 11 */
+    /* 8: the length of each month of 2005 to 2009, in which the clocks begin to change. 9, 10, 11 */
     same("January", kozempil_register_length(JANUARY), KOZEMPIL_MOST_READINGS);
+    same("March 2006", kozempil_register_length(12 * 6 + 2), 2976);
+    same("March 2007", kozempil_register_length(12 * 7 + 2), 2972);
+    same("November 2007", kozempil_register_length(12 * 7 + 10), 2884);
     open_home();
-    for (uint32_t month = 0; month < 60; month++) {
+    for (uint32_t month = 60; month < 120; month++) {
         uint64_t length = kozempil_register_length(month);
         account[KOZEMPIL_ACCOUNT_NEXT] = month;
         ask_to_bill(month, 0);
@@ -351,6 +354,12 @@ static void refusals_and_limits(void)
         same("register one short", number_with(length - 1), KOZEMPIL_REFUSED_REGISTER_LENGTH);
         same("register one long", number_with(length + 1), KOZEMPIL_REFUSED_REGISTER_LENGTH);
     }
+    account[KOZEMPIL_ACCOUNT_NEXT] = 12 * 7 + 2;
+    ask_to_bill(12 * 7 + 2, 0);
+    same("March 2007 without its change", number_with(2976), KOZEMPIL_REFUSED_REGISTER_LENGTH);
+    account[KOZEMPIL_ACCOUNT_NEXT] = 12 * 7 + 10;
+    ask_to_bill(12 * 7 + 10, 0);
+    same("November 2007 without its change", number_with(2880), KOZEMPIL_REFUSED_REGISTER_LENGTH);
     open_home();
     ask_to_bill(JANUARY, (UINT64_C(1) << KOZEMPIL_MOST_CRITICAL_DAYS) - 1);
     same("as many critical days as can be", number(), KOZEMPIL_ACCEPTED);

@@ -168,7 +168,15 @@ pub fn critical_days(random: &mut Random, month: u32) -> u32 {
 pub fn register(random: &mut Random, month: u32) -> Vec<u32> {
     let right = register_length(month);
     let length = match random.below(40) {
-        0 => random.pick([right - 1, right + 1, right - 96, right + 96, 0]),
+        0 => random.pick([
+            right - 1,
+            right + 1,
+            right - 4,
+            right + 4,
+            right - 96,
+            right + 96,
+            0,
+        ]),
         _ => right,
     };
     let largest = random.pick([1, 20, 1_000, LARGEST_READING]);
@@ -178,8 +186,8 @@ pub fn register(random: &mut Random, month: u32) -> Vec<u32> {
     let to = from + random.up_to(40) as usize;
     let mut register: Vec<u32> = (0..length)
         .map(|index| match shape {
-            // Nothing; the same each quarter; the same each day; part of each
-            // day; anything.
+            // Nothing; the same each quarter; the same every 96 readings; part of
+            // those; anything.
             0 => 0,
             1 => largest,
             2 => day[index % 96],

@@ -1,6 +1,6 @@
 -- The wall chart holds: each figure is computed from the definitions.
 use mathlib.Core.Path.{refl}
-use Rattle.calendar.specs.Calendar.{isLeap, leapDay, daysIn, firstWeekday, weekdayOf, dayKindOf, seasonOf, dayLength, quarterOf}
+use Rattle.calendar.specs.Calendar.{isLeap, leapDay, daysIn, firstWeekday, weekdayOf, dayKindOf, seasonOf, clockOf, dayLength, quarterBy, quarterOf}
 use Rattle.calendar.specs.Calendar.{readingsThrough, monthLength}
 use Rattle.hours.specs.CriticalDays.{isCritical}
 use Rattle.hours.specs.Hours.{isOnPeak, windowPeriod, windows, fixedSchedule, periodOnDay, periodOf}
@@ -13,7 +13,7 @@ use Rattle.chart.specs.Chart.{WallChart}
 
 pub wall-chart : WallChart
 unfolding
-    movesOf sharedOf cents grantedOf shortfallLine standbyLine isExempt nameplateOf isLeap leapDay daysIn firstWeekday weekdayOf dayKindOf seasonOf dayLength quarterOf readingsThrough monthLength isCritical isOnPeak windowPeriod windows fixedSchedule periodOnDay periodOf reading daySum daysSum sumOf resets forfeitedBy keptBy nettedOf sharedUnder leftOf paidOf billFrom
+    movesOf sharedOf cents grantedOf shortfallLine standbyLine isExempt nameplateOf isLeap leapDay daysIn firstWeekday weekdayOf dayKindOf seasonOf clockOf dayLength quarterBy quarterOf readingsThrough monthLength isCritical isOnPeak windowPeriod windows fixedSchedule periodOnDay periodOf reading daySum daysSum sumOf resets forfeitedBy keptBy nettedOf sharedUnder leftOf paidOf billFrom
 wall-chart =
     record {
       a-out = refl;

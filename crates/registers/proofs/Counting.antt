@@ -1,30 +1,21 @@
 -- The steps of the one pass over a register, over plain values: where a day starts, each of its readings, and where it ends.
-use mathlib.Core.Path.{_≡_, refl, ap, _∙_, sym}
+use mathlib.Core.Path.{_≡_, refl, sym}
 use mathlib.Core.Bool.{true, false, cond}
 use mathlib.Core.List.{List}
-use Prim.Native.Nat.{ℕ, _+_, _*_, _^_, _≤_, _<_, max}
-use native.Mathlib.Nat.{add-zero, add-assoc, mul-le-mul-right, le-trans}
+use Prim.Native.Nat.{ℕ, _+_, _*_, _^_, _≤_, _<_}
+use native.Mathlib.Nat.{add-zero, add-assoc}
 use native.Mathlib.Omega.{arith}
 use lib.Dec.{eqb}
 use lib.ListN.{length}
 use Rattle.calendar.specs.Calendar.{daysIn, dayLength, readingsThrough, monthLength, mostReadings}
-use Rattle.calendar.proofs.Laws.{daysIn-le, through-none, through-more, through-mono, monthLength-is, monthLength-le}
+use Rattle.calendar.proofs.Laws.{through-none, through-more, through-mono, monthLength-is, monthLength-le}
 use Rattle.hours.specs.Hours.{critical, onPeak, offPeak, discount, periodOf}
 use Rattle.registers.specs.declared.Count.{Count}
 use Rattle.registers.specs.declared.Tally.{Tally}
-use Rattle.registers.specs.Registers.{reading, daySum, daysSum, sumOf, dayPeak, daysPeak, demandPower, someAbove, readingRefused, lengthRefused, tallyOf}
-use Rattle.registers.specs.Counting.{Room, Added, Counted}
+use Rattle.registers.specs.Registers.{reading, daySum, daysSum, sumOf, demandPower, readingRefused, tallyOf}
+use Rattle.registers.specs.Counting.{Room, Added, Counted, DayCounted}
 use Rattle.registers.proofs.Laws.{sum-none, sum-more, days-sum-none, days-sum-more, peak-none, peak-more, days-peak-none, days-peak-more}
 use Rattle.registers.proofs.Laws.{above-none, above-more, sum-le, days-sum-le, power-le, wrong-length, right-length}
-
--- The count b is a, that of the first n days, with the first j readings of the next day.
-pub record DayCounted (schedule : List ℕ) (m x : ℕ) (r : List ℕ) (n : ℕ) (a : Count) (j : ℕ) (b : Count) : Type 0 where
-  pub critical : b .critical ≡ a .critical + daySum schedule m x r critical n j
-  pub onpeak : b .onpeak ≡ a .onpeak + daySum schedule m x r onPeak n j
-  pub offpeak : b .offpeak ≡ a .offpeak + daySum schedule m x r offPeak n j
-  pub discount : b .discount ≡ a .discount + daySum schedule m x r discount n j
-  pub peak : b .peak ≡ max (a .peak) (dayPeak schedule m x r n j)
-  pub above : b .above ≡ someAbove r (readingsThrough m n + j)
 
 module _ (schedule : List ℕ) (m x : ℕ) (r : List ℕ) where
   pub month-start : Counted schedule m x r 0 (record { critical = 0; onpeak = 0; offpeak = 0; discount = 0; peak = 0; above = false })
@@ -37,37 +28,38 @@ module _ (schedule : List ℕ) (m x : ℕ) (r : List ℕ) where
     above = rw (through-none m, above-none r);
   }
 
-  pub day-start : (n : ℕ) (a : Count) → Counted schedule m x r n a → DayCounted schedule m x r n a 0 a
+  pub day-start : (n : ℕ) (a : Count) → Counted schedule m x r n a → DayCounted schedule m x r n 0 a
   day-start n a k = record {
-    critical = omega (arith, sum-none schedule m x r critical n);
-    onpeak = omega (arith, sum-none schedule m x r onPeak n);
-    offpeak = omega (arith, sum-none schedule m x r offPeak n);
-    discount = omega (arith, sum-none schedule m x r discount n);
-    peak = omega (arith, peak-none schedule m x r n);
+    critical = omega (arith, k .critical, sum-none schedule m x r critical n);
+    onpeak = omega (arith, k .onpeak, sum-none schedule m x r onPeak n);
+    offpeak = omega (arith, k .offpeak, sum-none schedule m x r offPeak n);
+    discount = omega (arith, k .discount, sum-none schedule m x r discount n);
+    peak = omega (arith, k .peak, peak-none schedule m x r n);
     above = rw add-zero (k .above);
   }
 
-  pub day-step : (n : ℕ) (a : Count) (j : ℕ) (b d : Count) {p v : ℕ} → p ≡ periodOf schedule m x (n + 1) j → v ≡ reading r (readingsThrough m n + j)
-      → DayCounted schedule m x r n a j b → Added b p v d → DayCounted schedule m x r n a (j + 1) d
-  day-step n a j b d {p} {v} e f k s = record {
-    critical = sum critical (a .critical) (k .critical) (s .critical);
-    onpeak = sum onPeak (a .onpeak) (k .onpeak) (s .onpeak);
-    offpeak = sum offPeak (a .offpeak) (k .offpeak) (s .offpeak);
-    discount = sum discount (a .discount) (k .discount) (s .discount);
+  pub day-step : (n j : ℕ) (b d : Count) {p v : ℕ} → p ≡ periodOf schedule m x (n + 1) j → v ≡ reading r (readingsThrough m n + j)
+      → DayCounted schedule m x r n j b → Added b p v d → DayCounted schedule m x r n (j + 1) d
+  day-step n j b d {p} {v} e f k s = record {
+    critical = sum critical (k .critical) (s .critical);
+    onpeak = sum onPeak (k .onpeak) (s .onpeak);
+    offpeak = sum offPeak (k .offpeak) (s .offpeak);
+    discount = sum discount (k .discount) (s .discount);
     peak = rw (peak-more schedule m x r n j, ← e, ← f) (omega (arith, k .peak, s .peak));
     above = rw (← (add-assoc (readingsThrough m n) j 1), above-more, ← f, ← (k .above)) (s .above);
   }
     where
-      sum : (q t : ℕ) {u w : ℕ} → u ≡ t + daySum schedule m x r q n j → w ≡ u + cond (eqb p q) v 0 → w ≡ t + daySum schedule m x r q n (j + 1)
-      sum q t g h = rw (sum-more schedule m x r q n j, ← e, ← f) (omega arith)
+      sum : (q : ℕ) {u w : ℕ} → u ≡ daysSum schedule m x r q n + daySum schedule m x r q n j → w ≡ u + cond (eqb p q) v 0
+          → w ≡ daysSum schedule m x r q n + daySum schedule m x r q n (j + 1)
+      sum q g h = rw (sum-more schedule m x r q n j, ← e, ← f) (omega arith)
 
-  pub day-end : (n : ℕ) (a b : Count) → Counted schedule m x r n a → DayCounted schedule m x r n a (dayLength m (n + 1)) b → Counted schedule m x r (n + 1) b
-  day-end n a b k d = record {
-    critical = omega (arith, days-sum-more schedule m x r critical n, k .critical, d .critical);
-    onpeak = omega (arith, days-sum-more schedule m x r onPeak n, k .onpeak, d .onpeak);
-    offpeak = omega (arith, days-sum-more schedule m x r offPeak n, k .offpeak, d .offpeak);
-    discount = omega (arith, days-sum-more schedule m x r discount n, k .discount, d .discount);
-    peak = omega (arith, days-peak-more schedule m x r n, k .peak, d .peak);
+  pub day-end : (n : ℕ) (b : Count) → DayCounted schedule m x r n (dayLength m (n + 1)) b → Counted schedule m x r (n + 1) b
+  day-end n b d = record {
+    critical = omega (arith, days-sum-more schedule m x r critical n, d .critical);
+    onpeak = omega (arith, days-sum-more schedule m x r onPeak n, d .onpeak);
+    offpeak = omega (arith, days-sum-more schedule m x r offPeak n, d .offpeak);
+    discount = omega (arith, days-sum-more schedule m x r discount n, d .discount);
+    peak = omega (arith, days-peak-more schedule m x r n, d .peak);
     above = rw (through-more m n) (d .above);
   }
 
@@ -76,19 +68,19 @@ module _ (schedule : List ℕ) (m x : ℕ) (r : List ℕ) where
   in-month n j h l = omega (arith, monthLength-is m, through-more m n, through-mono m (n + 1) (daysIn m) (omega arith))
 
   -- Sums of at most a month's readings of 32 bits have room for another.
-  pub room : ((i : ℕ) → reading r i ≤ 4294967295) → (n : ℕ) (a : Count) (j : ℕ) (b : Count) → Counted schedule m x r n a → DayCounted schedule m x r n a j b
+  pub room : ((i : ℕ) → reading r i ≤ 4294967295) → (n j : ℕ) (b : Count) → DayCounted schedule m x r n j b
       → n < daysIn m → j ≤ dayLength m (n + 1) → Room b
-  room w n a j b k d h l =
+  room w n j b d h l =
       let few : readingsThrough m n + j ≤ mostReadings = omega (arith, in-month n j h l, monthLength-le m) in
       record {
-        critical = fits critical (k .critical) (d .critical) few;
-        onpeak = fits onPeak (k .onpeak) (d .onpeak) few;
-        offpeak = fits offPeak (k .offpeak) (d .offpeak) few;
-        discount = fits discount (k .discount) (d .discount) few;
+        critical = fits critical (d .critical) few;
+        onpeak = fits onPeak (d .onpeak) few;
+        offpeak = fits offPeak (d .offpeak) few;
+        discount = fits discount (d .discount) few;
       }
     where
-      fits : (p : ℕ) {v u : ℕ} → v ≡ daysSum schedule m x r p n → u ≡ v + daySum schedule m x r p n j → readingsThrough m n + j ≤ mostReadings → u < 2 ^ 63
-      fits p e f few = omega (arith, days-sum-le schedule m x r 4294967295 w p n, sum-le schedule m x r 4294967295 w p n j)
+      fits : (p : ℕ) {u : ℕ} → u ≡ daysSum schedule m x r p n + daySum schedule m x r p n j → readingsThrough m n + j ≤ mostReadings → u < 2 ^ 63
+      fits p e few = omega (arith, days-sum-le schedule m x r 4294967295 w p n, sum-le schedule m x r 4294967295 w p n j)
 
   -- The power of a month's readings of 32 bits fits 64.
   pub power-fits : ((i : ℕ) → reading r i ≤ 4294967295) → (a : Count) → Counted schedule m x r (daysIn m) a → 4 * a .peak < 2 ^ 64

@@ -2,12 +2,13 @@
 use mathlib.Core.Path.{_≡_}
 use mathlib.Core.Bool.{cond, _||_}
 use mathlib.Core.List.{List}
-use Prim.Native.Nat.{ℕ, _+_, _^_, _<_, max}
+use Prim.Native.Nat.{ℕ, _+_, _-_, _^_, _≤_, _<_, max}
 use lib.Dec.{eqb, ltb}
-use Rattle.calendar.specs.Calendar.{readingsThrough}
+use Rattle.calendar.specs.Calendar.{quarterBy, readingsThrough}
+use Rattle.calendar.specs.declared.Clock.{Clock}
 use Rattle.hours.specs.Hours.{critical, onPeak, offPeak, discount, isPeak}
 use Rattle.registers.specs.declared.Count.{Count}
-use Rattle.registers.specs.Registers.{daysSum, daysPeak, readingLimit, someAbove}
+use Rattle.registers.specs.Registers.{daySum, daysSum, dayPeak, daysPeak, readingLimit, someAbove}
 
 -- Another reading fits each sum.
 pub record Room (a : Count) : Type 0 where
@@ -33,3 +34,17 @@ pub record Counted (schedule : List ℕ) (m x : ℕ) (r : List ℕ) (n : ℕ) (a
   pub discount : a .discount ≡ daysSum schedule m x r discount n
   pub peak : a .peak ≡ daysPeak schedule m x r n
   pub above : a .above ≡ someAbove r (readingsThrough m n)
+
+-- The count a is that of the first n days and of the first j readings of the next.
+pub record DayCounted (schedule : List ℕ) (m x : ℕ) (r : List ℕ) (n j : ℕ) (a : Count) : Type 0 where
+  pub critical : a .critical ≡ daysSum schedule m x r critical n + daySum schedule m x r critical n j
+  pub onpeak : a .onpeak ≡ daysSum schedule m x r onPeak n + daySum schedule m x r onPeak n j
+  pub offpeak : a .offpeak ≡ daysSum schedule m x r offPeak n + daySum schedule m x r offPeak n j
+  pub discount : a .discount ≡ daysSum schedule m x r discount n + daySum schedule m x r discount n j
+  pub peak : a .peak ≡ max (daysPeak schedule m x r n) (dayPeak schedule m x r n j)
+  pub above : a .above ≡ someAbove r (readingsThrough m n + j)
+
+-- From reading i of a day up to reading j, the quarters follow each other.
+pub record Follows (k : Clock) (i j : ℕ) : Type 0 where
+  pub some : i < j
+  pub each : (p : ℕ) → i ≤ p → p < j → quarterBy k p ≡ quarterBy k i + (p - i)

@@ -20,8 +20,8 @@ pub record Part : Type 0 where
   pub start : ℕ
   pub count : ℕ
 
--- "that day's ninety-six readings as a part of the register named" (0 delivered, 1 received), or "the empty part at the front of the
--- delivered register".
+-- "that day's ninety-six readings as a part of the register named" (0 delivered, 1 received), by 02 No. 1 as many as the day has; or "the empty
+-- part at the front of the delivered register".
 unfoldable pub viewOf : RefT (List ℕ) → RefT (List ℕ) → ℕ → ℕ → ℕ → Part
 viewOf delivered received m d k =
     cond (emptyView (now delivered) (now received) m d k)

@@ -4,11 +4,12 @@ ghost use mathlib.Core.Bool.{cond, _||_};
 ghost use Prim.Native.Nat.{_+_, _<_, _≤_, max};
 ghost use lib.Dec.{eqb, ltb};
 ghost use lib.ListN.{length};
-ghost use Rattle.calendar.specs.Calendar.{daysIn, readingsThrough, monthLength};
+ghost use Rattle.calendar.specs.Calendar.{daysIn, clockOf, dayLength, readingsThrough, monthLength};
 ghost use Rattle.hours.specs.Hours.{isPeak};
 ghost use Rattle.registers.specs.Registers.{readingLimit, tallyOf};
 ghost use Rattle.registers.specs.DayView.{emptyView, viewOf, IsPart};
-ghost use Rattle.registers.specs.Counting.{Room, Added, Counted};
+ghost use Rattle.registers.specs.Counting.{Room, Added, Counted, DayCounted, Follows};
+use calendar::Clock;
 use hours::ByPeriod;
 
 // The largest reading that is accepted, in Wh.
@@ -114,13 +115,66 @@ impl Count {
     }
 }
 
-// The count with the readings of one day more: those of the day after the first days, which start at the place given.
+// Where the readings that start at a place of a day, and whose quarters follow each other, end: with the day, or where the clocks change.
+fn stretch_end(clock: Clock, length: usize, place: usize) -> usize
+    requires { ⌜ (place < length) × (8 ≤ length) ⌝ }
+    ensures { λ r. ⌜ r ≤ length ⌝ }
+    ensures { λ r. ⌜ Follows clock place r ⌝ }
+{
+    if calendar::CHANGE_QUARTER <= place {
+        return length;
+    }
+    match clock {
+        Clock::Unchanged => length,
+        _ => calendar::CHANGE_QUARTER,
+    }
+}
+
+// The count with some readings more of the day after the first days, whose readings start at the place given: those from one place of the
+// day to another, whose quarters follow each other.
+fn count_stretch(
+    count: Count,
+    schedule: &[u8; 384],
+    register: &[u32],
+    month: u32,
+    critical_days: u32,
+    clock: Clock,
+    before: u32,
+    start: usize,
+    from: usize,
+    to: usize,
+) -> Count
+    requires { ⌜ DayCounted (now schedule) month «critical_days» (now register) before from count ⌝ }
+    requires { ⌜ before < daysIn month ⌝ }
+    requires { ⌜ start ≡ readingsThrough month before ⌝ }
+    requires { ⌜ length (now register) ≡ monthLength month ⌝ }
+    requires { ⌜ clock ≡ clockOf month (before + 1) ⌝ }
+    requires { ⌜ to ≤ dayLength month (before + 1) ⌝ }
+    requires { ⌜ Follows clock from to ⌝ }
+    ensures { λ r. ⌜ DayCounted (now (schedule .entry)) month «critical_days» (now (register .entry)) before to r ⌝ }
+{
+    let day = before + 1;
+    let day_hours = hours::day_hours(month, day, critical_days);
+    let row = day_hours.row;
+    let quarter = calendar::quarter_by(clock, from as u32);
+    let mut so_far = count;
+    let mut place = from;
+    while place < to {
+        let period = hours::period_on(day_hours, schedule[row + (quarter + (place - from))]);
+        so_far = so_far.add(period, register[start + place]);
+        place += 1;
+    }
+    so_far
+}
+
+// The count with the readings of one day more. It goes by stretches, nearly always one, since a test for each reading made a bill a third slower.
 fn count_day(
     count: Count,
     schedule: &[u8; 384],
     register: &[u32],
     month: u32,
     critical_days: u32,
+    clock: Clock,
     before: u32,
     start: usize,
 ) -> Count
@@ -128,19 +182,27 @@ fn count_day(
     requires { ⌜ before < daysIn month ⌝ }
     requires { ⌜ start ≡ readingsThrough month before ⌝ }
     requires { ⌜ length (now register) ≡ monthLength month ⌝ }
+    requires { ⌜ clock ≡ clockOf month (before + 1) ⌝ }
     ensures { λ r. ⌜ Counted (now (schedule .entry)) month «critical_days» (now (register .entry)) (before + 1) r ⌝ }
 {
-    let day = before + 1;
-    let day_hours = hours::day_hours(month, day, critical_days);
-    let row = day_hours.row;
-    let length = calendar::day_length(month, day);
+    let length = calendar::length_by(clock);
     let mut so_far = count;
-    let mut place = 0;
-    while place < length {
-        let quarter = calendar::quarter_of(month, day, place);
-        let period = hours::period_on(day_hours, schedule[row + quarter]);
-        so_far = so_far.add(period, register[start + place]);
-        place += 1;
+    let mut from = 0;
+    while from < length {
+        let to = stretch_end(clock, length, from);
+        so_far = count_stretch(
+            so_far,
+            schedule,
+            register,
+            month,
+            critical_days,
+            clock,
+            before,
+            start,
+            from,
+            to,
+        );
+        from = to;
     }
     so_far
 }
@@ -151,6 +213,7 @@ fn count_month(schedule: &[u8; 384], register: &[u32], month: u32, critical_days
     ensures { λ r. ⌜ Counted (now (schedule .entry)) month «critical_days» (now (register .entry)) (daysIn month) r ⌝ }
 {
     let days = calendar::days_in(month);
+    let change = calendar::change_of(month);
     let mut count = Count {
         critical: 0,
         onpeak: 0,
@@ -162,16 +225,18 @@ fn count_month(schedule: &[u8; 384], register: &[u32], month: u32, critical_days
     let mut start = 0;
     let mut before = 0;
     while before < days {
+        let clock = calendar::clock_on(change, before + 1);
         count = count_day(
             count,
             schedule,
             register,
             month,
             critical_days,
+            clock,
             before,
             start,
         );
-        start += calendar::day_length(month, before + 1);
+        start += calendar::length_by(clock);
         before += 1;
     }
     count

@@ -3,8 +3,8 @@
 
 use crate::lists::List;
 use harness::reference::account::{Assisted, Class, PriceList, Rider, Terms};
-use harness::reference::calendar::{days_in_month, LAST_MONTH};
-use harness::reference::hours::register_length;
+use harness::reference::calendar::{days_in_month, month_number, LAST_MONTH};
+use harness::reference::hours::{first_reading, register_length};
 use harness::reference::ledger::Call;
 use harness::reference::refusal::{LARGEST_PRICE, LARGEST_READING};
 
@@ -26,12 +26,13 @@ const PLACES: [(u32, usize); 4] = [
 const CRITICAL_DAYS: u32 = 1;
 
 pub fn lists() -> Vec<List> {
-    let sets: [(&str, Vec<Vec<Call>>); 11] = [
+    let sets: [(&str, Vec<Vec<Call>>); 12] = [
         ("price lists", price_lists()),
         ("terms", terms()),
         ("months", months()),
         ("a full book", full_book()),
         ("register lengths", lengths()),
+        ("clock changes", clock_changes()),
         ("critical days", critical_days()),
         ("readings", readings()),
         ("faults together", faults()),
@@ -110,13 +111,13 @@ impl Month {
             .receive(PLACES[2], 4_000)
     }
 
-    fn deliver(mut self, (day, quarter): (u32, usize), wh: u32) -> Month {
-        self.delivered[96 * (day as usize - 1) + quarter] = wh;
+    fn deliver(mut self, (day, place): (u32, usize), wh: u32) -> Month {
+        self.delivered[first_reading(self.number, day) + place] = wh;
         self
     }
 
-    fn receive(mut self, (day, quarter): (u32, usize), wh: u32) -> Month {
-        self.received[96 * (day as usize - 1) + quarter] = wh;
+    fn receive(mut self, (day, place): (u32, usize), wh: u32) -> Month {
+        self.received[first_reading(self.number, day) + place] = wh;
         self
     }
 
@@ -331,6 +332,47 @@ fn lengths() -> Vec<Vec<Call>> {
             calls
         })
         .collect()
+}
+
+/// Every March and November of the century: registers with and without the hour that is
+/// lost or doubled, and readings beside the edges of windows on each of the first 14 days,
+/// where an hour more or less before them tells.
+fn clock_changes() -> Vec<Vec<Call>> {
+    let mut lists = Vec::new();
+    for (year, month_of_year) in (2000..2100).flat_map(|year| [(year, 3), (year, 11)]) {
+        let month = month_number(year, month_of_year).expect("a month of the century");
+        let bill = |delivered: usize, received: usize| Call::Billing {
+            month,
+            delivered: vec![1; delivered],
+            received: vec![2; received],
+            critical_days: 0,
+        };
+        let right = register_length(month);
+        let mut calls = vec![opening(HOME, PRICES, month)];
+        // The right length last: once it is accepted, the month is another one.
+        for length in [2_972, 2_976, 2_884, 2_880]
+            .into_iter()
+            .filter(|&length| length != right)
+        {
+            calls.extend([
+                bill(length, length),
+                bill(length, right),
+                bill(right, length),
+            ]);
+        }
+        calls.push(bill(right, right));
+        lists.push(calls);
+        for place in [3, 8, 19, 23, 27, 63, 67, 71, 79, 83, 87] {
+            let mut full = Month::new(month).critical(0b1000_0000_1000);
+            for day in 1..=14 {
+                // Each day's readings are binary digits of the sums.
+                full = full.deliver((day, place), 1 << day);
+                full = full.receive((day, place + 1), 1 << day);
+            }
+            lists.push(vec![opening(BRIDGE, PRICES, month), full.bill()]);
+        }
+    }
+    lists
 }
 
 fn critical_days() -> Vec<Vec<Call>> {

@@ -100,13 +100,13 @@ fn prices_text(list: &PriceList) -> String {
     )
 }
 
-/// Few readings with their days and quarters, many in runs, each as count × reading.
+/// Few readings with their places, many in runs, each as count × reading.
 fn register_text(register: &[u32]) -> String {
     let not_zero: Vec<String> = register
         .iter()
         .enumerate()
         .filter(|(_, reading)| **reading > 0)
-        .map(|(index, reading)| format!("day {} quarter {}: {reading}", index / 96 + 1, index % 96))
+        .map(|(index, reading)| format!("place {index}: {reading}"))
         .collect();
     let runs: Vec<String> = register
         .chunk_by(|one, next| one == next)

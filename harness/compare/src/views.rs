@@ -1,8 +1,9 @@
 //! The day view as start and length: every month with its first and last days, days and
-//! registers that aren't there, and registers of another length.
+//! registers that aren't there, and registers of another length; in every March and
+//! November each of the first fifteen days, among them those on which the clocks change.
 
 use crate::interface;
-use harness::reference::calendar::{days_in_month, LAST_MONTH};
+use harness::reference::calendar::{days_in_month, month_of_year, LAST_MONTH};
 use harness::reference::day_view::day_view;
 use harness::reference::hours::register_length;
 
@@ -27,12 +28,16 @@ fn views(month: u32) -> Vec<View> {
     let right = register_length(month);
     let last = days_in_month(month);
     let mut views = Vec::new();
-    for (delivered, received) in [(0, 0), (1, 0), (0, 1), (96, 96)] {
-        for day in [0, 1, 2, 28, last - 1, last, last + 1, 32, u32::MAX] {
+    let mut days = vec![0, 1, 2, 28, last - 1, last, last + 1, 32, u32::MAX];
+    if [3, 11].contains(&month_of_year(month)) {
+        days.extend(3..=15);
+    }
+    for (delivered, received) in [(0, 0), (-1, 0), (0, -1), (4, 4), (-4, -4), (-96, -96)] {
+        for &day in &days {
             for number in [0, 1, 2, u32::MAX] {
                 views.push(View {
-                    delivered: right - delivered,
-                    received: right - received,
+                    delivered: right.saturating_add_signed(delivered),
+                    received: right.saturating_add_signed(received),
                     month,
                     day,
                     number,
@@ -72,7 +77,7 @@ impl View {
 }
 
 /// Wrong views, each with its name.
-pub const WRONG: [(&str, fn(&View) -> Place); 5] = [
+pub const WRONG: [(&str, fn(&View) -> Place); 7] = [
     ("days are counted from 0", |view| {
         let [start, length] = view.expected();
         [start + length, length]
@@ -92,5 +97,23 @@ pub const WRONG: [(&str, fn(&View) -> Place); 5] = [
         };
         View { number, ..*view }.expected()
     }),
+    ("every day has 96 readings", |view| {
+        let [start, length] = view.expected();
+        [start, if length == 0 { 0 } else { 96 }]
+    }),
+    (
+        "every day begins 96 readings after the one before",
+        |view| {
+            let [_, length] = view.expected();
+            [
+                if length == 0 {
+                    0
+                } else {
+                    96 * (u64::from(view.day) - 1)
+                },
+                length,
+            ]
+        },
+    ),
     ("no month is shown", |_| [0, 0]),
 ];

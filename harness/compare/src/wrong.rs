@@ -6,13 +6,18 @@ use crate::rules::{settle, Rules, Settled};
 use harness::reference::account::{
     Account, Assisted, ByPeriod, Class, PriceList, Rider, State, Terms,
 };
-use harness::reference::calendar::{days_in_month, month_of_year, DayKind, Season, JUNE};
-use harness::reference::hours::{count_critical_days, Day, Period};
+use harness::reference::calendar::{
+    days_in_month, month_of_year, weekday, year, Clocks, DayKind, Season, Weekday, JUNE,
+};
+use harness::reference::hours::{
+    clock_quarters, count_critical_days, register_length, Day, Period,
+};
 use harness::reference::ledger::Call;
 use harness::reference::refusal::{
     self, Refusal, LARGEST_HOME, LARGEST_PRICE, LARGEST_READING, MOST_CARRIED, MOST_STANDING,
 };
 use harness::reference::steps::{self, cents, Netted, Shared, ASSISTED_FREE, STANDBY_FREE};
+use std::ops::RangeInclusive;
 
 #[derive(Clone, Copy)]
 pub struct Wrong {
@@ -24,7 +29,7 @@ const RIGHT: Rules = Rules::RIGHT;
 
 /// All variants, in the order of the paper.
 pub fn all() -> Vec<Wrong> {
-    [hours(), energy(), money(), refusals(), accounts()]
+    [clocks(), hours(), energy(), money(), refusals(), accounts()]
         .concat()
         .into_iter()
         .map(|(name, rules)| Wrong { name, rules })
@@ -200,6 +205,103 @@ pub fn given() -> Vec<Wrong> {
         .into_iter()
         .map(|(name, rules)| Wrong { name, rules })
         .collect()
+}
+
+/// A day on which the clocks change: a Sunday among some days of a month of the year.
+type Change = (u32, RangeInclusive<u32>);
+
+/// The clocks from a year on, by the days on which they go forward and back.
+fn clocks_by(month: u32, day: u32, from: u32, forward: Change, back: Change) -> Clocks {
+    let is = |(of_year, days): Change| month_of_year(month) == of_year && days.contains(&day);
+    match weekday(month, day) == Weekday::Sunday && year(month) >= from {
+        true if is(forward) => Clocks::Forward,
+        true if is(back) => Clocks::Back,
+        _ => Clocks::Even,
+    }
+}
+
+/// That the hour from 01:00 is lost instead of that from 02:00, and that from 02:00
+/// doubled, no bill shows: all of them are discount. The proofs exclude it.
+fn clocks() -> Vec<Named> {
+    vec![
+        (
+            "the clocks never change",
+            Rules {
+                clocks: |_, _| Clocks::Even,
+                ..RIGHT
+            },
+        ),
+        (
+            "the clocks change from 2006 on",
+            Rules {
+                clocks: |month, day| clocks_by(month, day, 2006, (3, 8..=14), (11, 1..=7)),
+                ..RIGHT
+            },
+        ),
+        (
+            "the clocks change from 2008 on",
+            Rules {
+                clocks: |month, day| clocks_by(month, day, 2008, (3, 8..=14), (11, 1..=7)),
+                ..RIGHT
+            },
+        ),
+        (
+            "the clocks go forward on the first Sunday of March",
+            Rules {
+                clocks: |month, day| clocks_by(month, day, 2007, (3, 1..=7), (11, 1..=7)),
+                ..RIGHT
+            },
+        ),
+        (
+            "the clocks go back on the last Sunday of October",
+            Rules {
+                clocks: |month, day| clocks_by(month, day, 2007, (3, 8..=14), (10, 25..=31)),
+                ..RIGHT
+            },
+        ),
+        (
+            "the clocks go back on the second Sunday of November",
+            Rules {
+                clocks: |month, day| clocks_by(month, day, 2007, (3, 8..=14), (11, 8..=14)),
+                ..RIGHT
+            },
+        ),
+        (
+            "March and November may have their days times 96 too",
+            Rules {
+                of_billing: |account, month, delivered, received, critical_days| {
+                    let even = 96 * days_in_month(month) as usize;
+                    let fits = delivered.len() == even && received.len() == even;
+                    let right = vec![0; register_length(month)];
+                    match fits {
+                        true => refusal_of(account, month, &right, &right, critical_days),
+                        false => refusal_of(account, month, delivered, received, critical_days),
+                    }
+                },
+                ..RIGHT
+            },
+        ),
+        (
+            "the short day lacks its last hour",
+            Rules {
+                quarters: |clocks| match clocks {
+                    Clocks::Forward => (0..92).chain(0..0),
+                    _ => clock_quarters(clocks),
+                },
+                ..RIGHT
+            },
+        ),
+        (
+            "the long day has its last hour twice",
+            Rules {
+                quarters: |clocks| match clocks {
+                    Clocks::Back => (0..96).chain(92..96),
+                    _ => clock_quarters(clocks),
+                },
+                ..RIGHT
+            },
+        ),
+    ]
 }
 
 fn hours() -> Vec<Named> {
@@ -819,7 +921,7 @@ fn refusals_of_billings() -> Vec<Named> {
             "a received register one reading too long is accepted",
             Rules {
                 of_billing: |account, month, delivered, received, critical_days| {
-                    let fits = received.len() == 96 * days_in_month(month) as usize + 1;
+                    let fits = received.len() == register_length(month) + 1;
                     let received = &received[..received.len() - usize::from(fits)];
                     refusal_of(account, month, delivered, received, critical_days)
                 },

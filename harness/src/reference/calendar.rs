@@ -14,6 +14,19 @@ pub const MONTHS_PER_YEAR: u32 = 12;
 /// Month of the year, 1 to 12, for June.
 pub const JUNE: u32 = 6;
 
+/// 02, No. 1: the first year in which the clocks change.
+const FIRST_CHANGE: u32 = 2007;
+
+/// 02, No. 1: what the clocks do on a day.
+#[derive(Clone, Copy, Debug, PartialEq, Eq)]
+pub enum Clocks {
+    Even,
+    /// At 02:00 to 03:00.
+    Forward,
+    /// At 02:00 back to 01:00.
+    Back,
+}
+
 #[derive(Clone, Copy, Debug, PartialEq, Eq)]
 pub enum Season {
     Winter,
@@ -102,6 +115,18 @@ pub fn day_kind(month: u32, day: u32) -> DayKind {
     match weekday(month, day) {
         Weekday::Saturday | Weekday::Sunday => DayKind::Weekend,
         _ => DayKind::Weekday,
+    }
+}
+
+/// 02, No. 1: from 2007 on, forward on the second Sunday of March and back on the first
+/// of November, as one finds them in a calendar.
+pub fn clocks(month: u32, day: u32) -> Clocks {
+    let mut sundays = (1..=31).filter(|&day| weekday(month, day) == Weekday::Sunday);
+    match month_of_year(month) {
+        _ if year(month) < FIRST_CHANGE => Clocks::Even,
+        3 if sundays.nth(1) == Some(day) => Clocks::Forward,
+        11 if sundays.next() == Some(day) => Clocks::Back,
+        _ => Clocks::Even,
     }
 }
 

@@ -1,7 +1,7 @@
 //! 01, "Day view and statement": a day's readings as a part of a register.
 
 use super::calendar::{days_in_month, LAST_MONTH};
-use super::hours::{register_length, QUARTERS_PER_DAY};
+use super::hours::{first_reading, register_length};
 
 /// Day 1 is the first; number 0 is delivered and 1 received. Where there is no
 /// such day, the empty part at the front of the delivered register.
@@ -25,7 +25,5 @@ pub fn day_view<'a>(
     if !(month_exists && day_exists && lengths_fit) {
         return none;
     }
-    let quarters = QUARTERS_PER_DAY as usize;
-    let start = quarters * (day as usize - 1);
-    &register[start..start + quarters]
+    &register[first_reading(month, day)..first_reading(month, day + 1)]
 }

@@ -1,8 +1,8 @@
 //! 01, "Calendar and hours": the period of a quarter-hour, by the window rules.
 
-use super::calendar::{day_kind, days_in_month, season, DayKind, Season};
-
-pub const QUARTERS_PER_DAY: u32 = 96;
+use super::calendar::{clocks, day_kind, days_in_month, season, Clocks, DayKind, Season};
+use std::iter::Chain;
+use std::ops::Range;
 
 /// The four periods, dearest first; the paper's numbers are 0 to 3.
 #[derive(Clone, Copy, Debug, PartialEq, Eq)]
@@ -72,9 +72,28 @@ pub fn count_critical_days(critical_days: u32) -> usize {
         .count()
 }
 
-/// Readings that a register of the month has: 96 for each day.
+/// The clock quarters of a day's readings, in their order. Where the clocks change they
+/// do so at 02:00, and show 03:00 or 01:00 then (02, No. 1).
+pub fn clock_quarters(clocks: Clocks) -> Chain<Range<u32>, Range<u32>> {
+    let two = 8;
+    let shown = match clocks {
+        Clocks::Even => two,
+        Clocks::Forward => two + 4,
+        Clocks::Back => two - 4,
+    };
+    (0..two).chain(shown..96)
+}
+
+/// The readings of a month before a day.
+pub fn first_reading(month: u32, day: u32) -> usize {
+    (1..day)
+        .map(|day| clock_quarters(clocks(month, day)).count())
+        .sum()
+}
+
+/// Readings that a register of the month has.
 pub fn register_length(month: u32) -> usize {
-    QUARTERS_PER_DAY as usize * days_in_month(month) as usize
+    first_reading(month, days_in_month(month) + 1)
 }
 
 /// Each reading of a month's register with its period. Readings past the month
@@ -84,12 +103,9 @@ pub fn readings_with_period(
     critical_days: u32,
     register: &[u32],
 ) -> impl Iterator<Item = (Period, u32)> + '_ {
-    (1..=days_in_month(month))
-        .zip(register.chunks(QUARTERS_PER_DAY as usize))
-        .flat_map(move |(day, readings)| {
-            let day = Day::of(month, day, critical_days);
-            (0..QUARTERS_PER_DAY)
-                .zip(readings)
-                .map(move |(quarter, &reading)| (day.period(quarter), reading))
-        })
+    let periods = (1..=days_in_month(month)).flat_map(move |number| {
+        let day = Day::of(month, number, critical_days);
+        clock_quarters(clocks(month, number)).map(move |quarter| day.period(quarter))
+    });
+    periods.zip(register.iter().copied())
 }

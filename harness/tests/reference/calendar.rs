@@ -1,8 +1,8 @@
 //! The calendar against dates known from elsewhere.
 
 use harness::reference::calendar::{
-    day_kind, days_in_month, is_leap_year, month_number, month_of_year, season, weekday, year,
-    DayKind, Season, Weekday,
+    clocks, day_kind, days_in_month, is_leap_year, month_number, month_of_year, season, weekday,
+    year, Clocks, DayKind, Season, Weekday,
 };
 
 fn month(year: u32, month_of_year: u32) -> u32 {
@@ -113,4 +113,33 @@ fn any_number_has_an_answer() {
     }
     // The day before 1 January 2000.
     assert_eq!(weekday(0, 0), Weekday::Friday);
+}
+
+#[test]
+fn the_clocks_change_on_two_sundays() {
+    for (year, march, november) in [
+        (2007, 11, 4),
+        (2008, 9, 2),
+        (2009, 8, 1),
+        (2010, 14, 7),
+        (2011, 13, 6),
+        (2012, 11, 4),
+        (2013, 10, 3),
+        (2026, 8, 1),
+        (2099, 8, 1),
+    ] {
+        for first in (1..=12).map(|of_year| month(year, of_year)) {
+            for day in 1..=days_in_month(first) {
+                let expected = match (month_of_year(first), day) {
+                    (3, day) if day == march => Clocks::Forward,
+                    (11, day) if day == november => Clocks::Back,
+                    _ => Clocks::Even,
+                };
+                assert_eq!(clocks(first, day), expected);
+            }
+        }
+    }
+    for first in 0..month(2007, 1) {
+        assert!((1..=31).all(|day| clocks(first, day) == Clocks::Even));
+    }
 }

@@ -1,6 +1,6 @@
 //! 01, "Day view and statement": the day view and its four empty cases.
 
-use crate::helpers::{DECEMBER_2099, FEBRUARY_2000, FEBRUARY_2001};
+use crate::helpers::{DECEMBER_2099, FEBRUARY_2000, FEBRUARY_2001, MARCH_2007, NOVEMBER_2007};
 use harness::reference::day_view::day_view;
 
 /// Registers with a different number in each place.
@@ -28,6 +28,24 @@ fn each_day_is_a_part_of_the_register_named() {
     let (delivered, received) = registers(31);
     let view = day_view(&delivered, &received, DECEMBER_2099, 31, 1);
     assert_eq!((view.len(), view[0], view[95]), (96, 102_880, 102_975));
+}
+
+#[test]
+fn days_on_which_the_clocks_change() {
+    // The short day is 11 March 2007, the long one 4 November.
+    for (month, length, day, readings) in
+        [(MARCH_2007, 2_972, 11, 92), (NOVEMBER_2007, 2_884, 4, 100)]
+    {
+        let delivered: Vec<u32> = (0..length).collect();
+        let at = |day| day_view(&delivered, &delivered, month, day, 0).to_vec();
+        let start = 96 * (day - 1);
+        assert_eq!(at(day - 1), (start - 96..start).collect::<Vec<_>>());
+        assert_eq!(at(day), (start..start + readings).collect::<Vec<_>>());
+        let next = start + readings;
+        assert_eq!(at(day + 1), (next..next + 96).collect::<Vec<_>>());
+        let view = day_view(&delivered[1..], &delivered[1..], month, day, 0);
+        assert!(view.is_empty());
+    }
 }
 
 #[test]

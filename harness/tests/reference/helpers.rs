@@ -12,6 +12,10 @@ pub const APRIL_2001: u32 = 15;
 pub const MAY_2001: u32 = 16;
 pub const JUNE_2001: u32 = 17;
 pub const JULY_2001: u32 = 18;
+pub const MARCH_2006: u32 = 74;
+pub const NOVEMBER_2006: u32 = 82;
+pub const MARCH_2007: u32 = 86;
+pub const NOVEMBER_2007: u32 = 94;
 pub const DECEMBER_2099: u32 = 1199;
 
 // One quarter of each window.

@@ -1,10 +1,10 @@
 //! The windows at their edges.
 
-use crate::helpers::{FEBRUARY_2001, JULY_2001};
-use harness::reference::calendar::{DayKind, Season};
+use crate::helpers::{FEBRUARY_2001, JULY_2001, MARCH_2007, NOVEMBER_2007};
+use harness::reference::calendar::{Clocks, DayKind, Season};
 use harness::reference::hours::{
-    count_critical_days, is_critical_day, readings_with_period, register_length, scheduled, Day,
-    Period,
+    clock_quarters, count_critical_days, is_critical_day, readings_with_period, register_length,
+    scheduled, Day, Period,
 };
 
 fn count(season: Season, kind: DayKind, period: Period) -> usize {
@@ -88,4 +88,41 @@ fn readings_meet_their_periods() {
     );
     assert_eq!(register_length(FEBRUARY_2001), 2_688);
     assert_eq!(register_length(JULY_2001), 2_976);
+}
+
+#[test]
+fn quarters_of_days_on_which_the_clocks_change() {
+    // Hour by hour: all of them, all but 02:00, and 01:00 twice.
+    let hours: Vec<u32> = (0..24).collect();
+    let short = [&hours[..2], &hours[3..]].concat();
+    let long = [&hours[..2], &hours[1..]].concat();
+    for (clocks, hours) in [
+        (Clocks::Even, hours),
+        (Clocks::Forward, short),
+        (Clocks::Back, long),
+    ] {
+        let quarters = hours.iter().flat_map(|hour| 4 * hour..4 * hour + 4);
+        assert!(clock_quarters(clocks).eq(quarters));
+    }
+}
+
+#[test]
+fn readings_take_their_periods_from_the_clock() {
+    // On 11 March 2007 on-peak begins at place 64, on the days beside it at 68.
+    let march: Vec<_> = readings_with_period(MARCH_2007, 0, &[1; 2_972]).collect();
+    let on_peak = |place: usize| march[place].0 == Period::OnPeak;
+    for (first, begins) in [(960 - 96, 68), (960, 64), (960 + 92, 68)] {
+        assert!(!on_peak(first + begins - 1) && on_peak(first + begins));
+        assert!(on_peak(first + begins + 15) && !on_peak(first + begins + 16));
+    }
+    // Discount hours: 16 quarters on the short day, 24 on the long one, 4 November.
+    let discount = |month, length, first: usize, count| {
+        readings_with_period(month, 0, &vec![1; length])
+            .skip(first)
+            .take(count)
+            .filter(|&(period, _)| period == Period::Discount)
+            .count()
+    };
+    assert_eq!(discount(MARCH_2007, 2_972, 960, 92), 16);
+    assert_eq!(discount(NOVEMBER_2007, 2_884, 288, 100), 24);
 }

@@ -3,7 +3,7 @@
 use crate::helpers::{bridge_home, home, prices, DISCOUNT, MAY_2001, OFF_PEAK, WINTER_ON_PEAK};
 use crate::helpers::{Registers, JUNE_2001};
 use harness::reference::account::{Account, PriceList, State, Terms};
-use harness::reference::calendar::days_in_month;
+use harness::reference::hours::register_length;
 use harness::reference::ledger::{check_balances, run, Amounts, Call, Imbalance, Ledger};
 
 fn opening(terms: Terms, price_list: PriceList, first_month: u32) -> Call {
@@ -212,9 +212,11 @@ fn the_check_takes_any_amounts() {
 fn century(terms: Terms, price_list: PriceList, delivered: u32, received: u32) -> Vec<Call> {
     let mut calls = vec![opening(terms, price_list, 0)];
     for month in 0..=1_199 {
-        let mut registers = Registers::zeros(days_in_month(month) as usize);
-        registers.delivered.fill(delivered);
-        registers.received.fill(received);
+        let length = register_length(month);
+        let registers = Registers {
+            delivered: vec![delivered; length],
+            received: vec![received; length],
+        };
         calls.push(billing(month, registers));
     }
     calls.push(billing(1_200, Registers::zeros(31)));
@@ -229,12 +231,13 @@ fn a_century_of_banked_months() {
     assert_eq!(ledger.account.next_month, 1_200);
     assert!(numbers(&ledger)[..1_201].iter().all(|&number| number == 0));
     assert_eq!(numbers(&ledger)[1_201], 11);
-    // 36,525 days of 96 quarters.
+    // 36,525 days of 96 quarters: each year that lacks an hour in March has one more in November.
     assert_eq!(totals.delivered.iter().sum::<u128>(), 3_506_400);
     assert_eq!(totals.exported.iter().sum::<u128>(), 7_012_800);
     assert_eq!(totals.own, totals.delivered);
-    // After June 2099: 214 days from 1 June to 31 December, 96 Wh each.
-    assert_eq!(totals.left.iter().sum::<u128>(), 214 * 96);
+    // After June 2099: 214 days from 1 June to 31 December, 96 Wh each, and 4 in the hour
+    // that November has twice.
+    assert_eq!(totals.left.iter().sum::<u128>(), 214 * 96 + 4);
 }
 
 #[test]

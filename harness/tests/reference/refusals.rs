@@ -2,7 +2,8 @@
 
 use crate::helpers::{
     bridge_home, business, home, open_account, prices, Registers, APRIL_2001, DECEMBER_2099,
-    FEBRUARY_2000, FEBRUARY_2001, JANUARY_2000, MARCH_2001,
+    FEBRUARY_2000, FEBRUARY_2001, JANUARY_2000, MARCH_2001, MARCH_2006, MARCH_2007, NOVEMBER_2006,
+    NOVEMBER_2007,
 };
 use harness::reference::account::{Account, Bill, Closing, PriceList, Rider, State, Terms};
 use harness::reference::calls::{billing, closing, opening, repricing};
@@ -295,6 +296,10 @@ fn refusal_8_register_length() {
         (FEBRUARY_2000, 2_784),
         (FEBRUARY_2001, 2_688),
         (APRIL_2001, 2_880),
+        (MARCH_2006, 2_976),
+        (MARCH_2007, 2_972),
+        (NOVEMBER_2006, 2_880),
+        (NOVEMBER_2007, 2_884),
     ] {
         let account = open_account(month);
         let with = |delivered, received| {
@@ -305,7 +310,15 @@ fn refusal_8_register_length() {
             billed(account, month, &registers, 0)
         };
         assert_eq!(with(readings, readings), 0);
-        for wrong in [0, readings - 96, readings - 1, readings + 1, readings + 96] {
+        for wrong in [
+            0,
+            readings - 96,
+            readings - 4,
+            readings - 1,
+            readings + 1,
+            readings + 4,
+            readings + 96,
+        ] {
             assert_eq!(with(wrong, readings), 8);
             assert_eq!(with(readings, wrong), 8);
             assert_eq!(with(wrong, wrong), 8);

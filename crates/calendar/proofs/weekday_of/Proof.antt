@@ -2,7 +2,7 @@
 use borrow.Author.Needs.{needs}
 use native.Mathlib.Omega.{arith}
 use Rattle.calendar.specs.Calendar.{weekdayOf}
-use Rattle.calendar.proofs.Laws.{firstWeekday-lt}
+use Rattle.calendar.proofs.Lengths.{firstWeekday-lt}
 use Rattle.calendar.proofs.weekday_of.Statement.{statement}
 use Rattle.calendar.proofs.weekday_of.Tie as tie
 
