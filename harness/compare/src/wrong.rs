@@ -216,55 +216,37 @@ fn clocks_by(month: u32, day: u32, from: u32, forward: Change, back: Change) -> 
     match weekday(month, day) == Weekday::Sunday && year(month) >= from {
         true if is(forward) => Clocks::Forward,
         true if is(back) => Clocks::Back,
-        _ => Clocks::Even,
+        _ => Clocks::Unchanged,
     }
 }
 
+/// The right rules but for when the clocks change.
+fn by_clocks(name: &'static str, clocks: fn(u32, u32) -> Clocks) -> Named {
+    (name, Rules { clocks, ..RIGHT })
+}
+
 /// That the hour from 01:00 is lost instead of that from 02:00, and that from 02:00
-/// doubled, no bill shows: all of them are discount. The proofs exclude it.
+/// doubled, no bill shows: both hours are discount. The proofs exclude it.
 fn clocks() -> Vec<Named> {
     vec![
-        (
-            "the clocks never change",
-            Rules {
-                clocks: |_, _| Clocks::Even,
-                ..RIGHT
-            },
-        ),
-        (
-            "the clocks change from 2006 on",
-            Rules {
-                clocks: |month, day| clocks_by(month, day, 2006, (3, 8..=14), (11, 1..=7)),
-                ..RIGHT
-            },
-        ),
-        (
-            "the clocks change from 2008 on",
-            Rules {
-                clocks: |month, day| clocks_by(month, day, 2008, (3, 8..=14), (11, 1..=7)),
-                ..RIGHT
-            },
-        ),
-        (
+        by_clocks("the clocks never change", |_, _| Clocks::Unchanged),
+        by_clocks("the clocks change from 2006 on", |month, day| {
+            clocks_by(month, day, 2006, (3, 8..=14), (11, 1..=7))
+        }),
+        by_clocks("the clocks change from 2008 on", |month, day| {
+            clocks_by(month, day, 2008, (3, 8..=14), (11, 1..=7))
+        }),
+        by_clocks(
             "the clocks go forward on the first Sunday of March",
-            Rules {
-                clocks: |month, day| clocks_by(month, day, 2007, (3, 1..=7), (11, 1..=7)),
-                ..RIGHT
-            },
+            |month, day| clocks_by(month, day, 2007, (3, 1..=7), (11, 1..=7)),
         ),
-        (
+        by_clocks(
             "the clocks go back on the last Sunday of October",
-            Rules {
-                clocks: |month, day| clocks_by(month, day, 2007, (3, 8..=14), (10, 25..=31)),
-                ..RIGHT
-            },
+            |month, day| clocks_by(month, day, 2007, (3, 8..=14), (10, 25..=31)),
         ),
-        (
+        by_clocks(
             "the clocks go back on the second Sunday of November",
-            Rules {
-                clocks: |month, day| clocks_by(month, day, 2007, (3, 8..=14), (11, 8..=14)),
-                ..RIGHT
-            },
+            |month, day| clocks_by(month, day, 2007, (3, 8..=14), (11, 8..=14)),
         ),
         (
             "March and November may have their days times 96 too",

@@ -20,7 +20,7 @@ const FIRST_CHANGE: u32 = 2007;
 /// 02, No. 1: what the clocks do on a day.
 #[derive(Clone, Copy, Debug, PartialEq, Eq)]
 pub enum Clocks {
-    Even,
+    Unchanged,
     /// At 02:00 to 03:00.
     Forward,
     /// At 02:00 back to 01:00.
@@ -123,10 +123,10 @@ pub fn day_kind(month: u32, day: u32) -> DayKind {
 pub fn clocks(month: u32, day: u32) -> Clocks {
     let mut sundays = (1..=31).filter(|&day| weekday(month, day) == Weekday::Sunday);
     match month_of_year(month) {
-        _ if year(month) < FIRST_CHANGE => Clocks::Even,
+        _ if year(month) < FIRST_CHANGE => Clocks::Unchanged,
         3 if sundays.nth(1) == Some(day) => Clocks::Forward,
         11 if sundays.next() == Some(day) => Clocks::Back,
-        _ => Clocks::Even,
+        _ => Clocks::Unchanged,
     }
 }
 

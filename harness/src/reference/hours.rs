@@ -77,7 +77,7 @@ pub fn count_critical_days(critical_days: u32) -> usize {
 pub fn clock_quarters(clocks: Clocks) -> Chain<Range<u32>, Range<u32>> {
     let two = 8;
     let shown = match clocks {
-        Clocks::Even => two,
+        Clocks::Unchanged => two,
         Clocks::Forward => two + 4,
         Clocks::Back => two - 4,
     };

@@ -133,13 +133,13 @@ fn the_clocks_change_on_two_sundays() {
                 let expected = match (month_of_year(first), day) {
                     (3, day) if day == march => Clocks::Forward,
                     (11, day) if day == november => Clocks::Back,
-                    _ => Clocks::Even,
+                    _ => Clocks::Unchanged,
                 };
                 assert_eq!(clocks(first, day), expected);
             }
         }
     }
     for first in 0..month(2007, 1) {
-        assert!((1..=31).all(|day| clocks(first, day) == Clocks::Even));
+        assert!((1..=31).all(|day| clocks(first, day) == Clocks::Unchanged));
     }
 }

@@ -97,7 +97,7 @@ fn quarters_of_days_on_which_the_clocks_change() {
     let short = [&hours[..2], &hours[3..]].concat();
     let long = [&hours[..2], &hours[1..]].concat();
     for (clocks, hours) in [
-        (Clocks::Even, hours),
+        (Clocks::Unchanged, hours),
         (Clocks::Forward, short),
         (Clocks::Back, long),
     ] {
