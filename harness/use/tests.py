@@ -106,6 +106,7 @@ class Failures(unittest.TestCase):
         with open("/dev/full", "wb") as full:
             for arguments in [PAPER], ["--table", PAPER], ["--help"], ["--version"]:
                 self.refused(run(*arguments, stdout=full), "statement: standard output: No space left on device\n")
+            self.refused(run("--explain", PAPER, stdout=full), "statement: standard output or standard error: No space left on device\n")
 
     def test_closed_standard_output(self):
         for arguments in [PAPER], ["--table", PAPER], ["--help"], []:
@@ -198,8 +199,9 @@ class Options(unittest.TestCase):
     def test_each_explanation_follows_its_line(self):
         for path in INPUTS:
             lines = text(path.removesuffix(".in") + ".out").splitlines(keepends=True)
-            both = "".join(line + expected.explanations(line, KNOWN) for line in lines)
-            self.assertEqual(run("--explain", path, stderr=subprocess.STDOUT).stdout, both, path)
+            for options, shown in (["--explain"], str), (["--explain", "--table"], lambda line: expected.table(line, KNOWN)):
+                both = "".join(shown(line) + expected.explanations(line, KNOWN) for line in lines)
+                self.assertEqual(run(*options, path, stderr=subprocess.STDOUT).stdout, both, path)
 
     def test_tables(self):
         for path in INPUTS:
@@ -211,9 +213,10 @@ class Options(unittest.TestCase):
         for path in INPUTS:
             printed = text(path.removesuffix(".in") + ".out")
             ended = run(path, "--explain")
-            self.assertEqual((ended.stdout, ended.stderr), (printed, expected.explanations(printed, KNOWN)), path)
+            told = expected.explanations(printed, KNOWN), expected.status(printed)
+            self.assertEqual((ended.stdout, ended.stderr, ended.returncode), (printed, *told), path)
             both = run("--explain", path, "--table")
-            self.assertEqual((both.stdout, both.stderr), (expected.table(printed, KNOWN), expected.explanations(printed, KNOWN)), path)
+            self.assertEqual((both.stdout, both.stderr, both.returncode), (expected.table(printed, KNOWN), *told), path)
 
     def test_examples_tell_every_refusal(self):
         told = {expected.refusal(line) for path in INPUTS for line in text(path.removesuffix(".in") + ".out").splitlines()}

@@ -3,7 +3,7 @@
 
 use crate::lists::List;
 use harness::reference::account::{Assisted, Class, PriceList, Rider, Terms};
-use harness::reference::calendar::{days_in_month, month_number, LAST_MONTH};
+use harness::reference::calendar::{days_in_month, month_of_year, LAST_MONTH};
 use harness::reference::hours::{first_reading, register_length};
 use harness::reference::ledger::Call;
 use harness::reference::refusal::{LARGEST_PRICE, LARGEST_READING};
@@ -339,8 +339,7 @@ fn lengths() -> Vec<Vec<Call>> {
 /// where an hour more or less before them tells.
 fn clock_changes() -> Vec<Vec<Call>> {
     let mut lists = Vec::new();
-    for (year, month_of_year) in (2000..2100).flat_map(|year| [(year, 3), (year, 11)]) {
-        let month = month_number(year, month_of_year).expect("a month of the century");
+    for month in (0..=LAST_MONTH).filter(|&month| [3, 11].contains(&month_of_year(month))) {
         let bill = |delivered: usize, received: usize| Call::Billing {
             month,
             delivered: vec![1; delivered],

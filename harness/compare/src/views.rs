@@ -105,14 +105,8 @@ pub const WRONG: [(&str, fn(&View) -> Place); 7] = [
         "every day begins 96 readings after the one before",
         |view| {
             let [_, length] = view.expected();
-            [
-                if length == 0 {
-                    0
-                } else {
-                    96 * (u64::from(view.day) - 1)
-                },
-                length,
-            ]
+            let days_before = if length == 0 { 0 } else { view.day - 1 };
+            [96 * u64::from(days_before), length]
         },
     ),
     ("no month is shown", |_| [0, 0]),

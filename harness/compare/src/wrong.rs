@@ -210,6 +210,14 @@ pub fn given() -> Vec<Wrong> {
 /// A day on which the clocks change: a Sunday among some days of a month of the year.
 type Change = (u32, RangeInclusive<u32>);
 
+const FORWARD: Change = (3, 8..=14);
+const BACK: Change = (11, 1..=7);
+
+/// The rules with other clocks.
+fn with_clocks(clocks: fn(u32, u32) -> Clocks) -> Rules {
+    Rules { clocks, ..RIGHT }
+}
+
 /// The clocks from a year on, by the days on which they go forward and back.
 fn clocks_by(month: u32, day: u32, from: u32, forward: Change, back: Change) -> Clocks {
     let is = |(of_year, days): Change| month_of_year(month) == of_year && days.contains(&day);
@@ -220,33 +228,30 @@ fn clocks_by(month: u32, day: u32, from: u32, forward: Change, back: Change) -> 
     }
 }
 
-/// The right rules but for when the clocks change.
-fn by_clocks(name: &'static str, clocks: fn(u32, u32) -> Clocks) -> Named {
-    (name, Rules { clocks, ..RIGHT })
-}
-
 /// That the hour from 01:00 is lost instead of that from 02:00, and that from 02:00
 /// doubled, no bill shows: both hours are discount. The proofs exclude it.
 fn clocks() -> Vec<Named> {
     vec![
-        by_clocks("the clocks never change", |_, _| Clocks::Unchanged),
-        by_clocks("the clocks change from 2006 on", |month, day| {
-            clocks_by(month, day, 2006, (3, 8..=14), (11, 1..=7))
-        }),
-        by_clocks("the clocks change from 2008 on", |month, day| {
-            clocks_by(month, day, 2008, (3, 8..=14), (11, 1..=7))
-        }),
-        by_clocks(
+        ("the clocks never change", with_clocks(|_, _| Clocks::Unchanged)),
+        (
+            "the clocks change from 2006 on",
+            with_clocks(|month, day| clocks_by(month, day, 2006, FORWARD, BACK)),
+        ),
+        (
+            "the clocks change from 2008 on",
+            with_clocks(|month, day| clocks_by(month, day, 2008, FORWARD, BACK)),
+        ),
+        (
             "the clocks go forward on the first Sunday of March",
-            |month, day| clocks_by(month, day, 2007, (3, 1..=7), (11, 1..=7)),
+            with_clocks(|month, day| clocks_by(month, day, 2007, (3, 1..=7), BACK)),
         ),
-        by_clocks(
+        (
             "the clocks go back on the last Sunday of October",
-            |month, day| clocks_by(month, day, 2007, (3, 8..=14), (10, 25..=31)),
+            with_clocks(|month, day| clocks_by(month, day, 2007, FORWARD, (10, 25..=31))),
         ),
-        by_clocks(
+        (
             "the clocks go back on the second Sunday of November",
-            |month, day| clocks_by(month, day, 2007, (3, 8..=14), (11, 8..=14)),
+            with_clocks(|month, day| clocks_by(month, day, 2007, FORWARD, (11, 8..=14))),
         ),
         (
             "March and November may have their days times 96 too",
@@ -392,7 +397,7 @@ fn weekend_peak(day: Day, quarter: u32) -> bool {
     day.season == Season::Summer && day.kind == DayKind::Weekend && (52..=71).contains(&quarter)
 }
 
-fn season_with(month: u32, summer: std::ops::RangeInclusive<u32>) -> Season {
+fn season_with(month: u32, summer: RangeInclusive<u32>) -> Season {
     match summer.contains(&month_of_year(month)) {
         true => Season::Summer,
         false => Season::Winter,
