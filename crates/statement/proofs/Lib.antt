@@ -1,4 +1,5 @@
 mod Giving
 mod Lines
 mod Reaching
+pub mod Status
 mod Texts

@@ -51,15 +51,15 @@ filled-ends (b ∷ t) (n ∷ ns) u v h k =
     by true e p q = ends-append v (decimal n) (filledIn t ns) ∙ p e
     by false e p q = q
 
-bill-ends : (m n : ℕ) (b : Bill) → endsLine true (billText m n b) ≡ true
+pub bill-ends : (m n : ℕ) (b : Bill) → endsLine true (billText m n b) ≡ true
 unfolding billText endsLine
 bill-ends m n b = filled-ends billTemplate _ true true refl (λ f. f)
 
-open-ends : (n : ℕ) → endsLine true (openText n) ≡ true
+pub open-ends : (n : ℕ) → endsLine true (openText n) ≡ true
 unfolding openText endsLine
 open-ends n = filled-ends (bytesOf "open=#\n") _ true true refl (λ f. f)
 
-line-ends : (n : ℕ) → endsLine true (lineText n) ≡ true
+pub line-ends : (n : ℕ) → endsLine true (lineText n) ≡ true
 unfolding lineText endsLine
 line-ends n = filled-ends (bytesOf "line=#\n") _ true true refl (λ f. f)
 

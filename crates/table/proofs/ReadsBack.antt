@@ -68,11 +68,11 @@ marks [] = 0
 marks (b ∷ t) = cond (eqb b 35) 1 0 + marks t
 
 -- What is put for a byte of a template.
-filled-mark : (b : ℕ) (t : List ℕ) (n : ℕ) (ns : List ℕ) → eqb b 35 ≡ true → filledIn (b ∷ t) (n ∷ ns) ≡ decimal n ++ filledIn t ns
+pub filled-mark : (b : ℕ) (t : List ℕ) (n : ℕ) (ns : List ℕ) → eqb b 35 ≡ true → filledIn (b ∷ t) (n ∷ ns) ≡ decimal n ++ filledIn t ns
 unfolding filledIn
 filled-mark b t n ns e = rw e
 
-filled-byte : (b : ℕ) (t ns : List ℕ) → eqb b 35 ≡ false → filledIn (b ∷ t) ns ≡ b ∷ filledIn t ns
+pub filled-byte : (b : ℕ) (t ns : List ℕ) → eqb b 35 ≡ false → filledIn (b ∷ t) ns ≡ b ∷ filledIn t ns
 unfolding filledIn
 filled-byte b t [] e = rw e
 filled-byte b t (n ∷ ns) e = rw e
