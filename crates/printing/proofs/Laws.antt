@@ -34,8 +34,8 @@ filled-within (b ∷ t) (n ∷ ns) =
     (omega arith)
 
 -- A template fits where there is room.
-fits : (t ns : List ℕ) {k : ℕ} → mostBytes t ≤ k → length (filledIn t ns) ≤ k
-fits t ns h = omega (arith, filled-within t ns)
+template-fits : (t ns : List ℕ) {k : ℕ} → mostBytes t ≤ k → length (filledIn t ns) ≤ k
+template-fits t ns h = omega (arith, filled-within t ns)
 
 -- The line of a month has at most 774 bytes, and the others 26.
 pub bill-most : mostBytes billTemplate ≤ 1024
@@ -53,15 +53,15 @@ line-most = lit≤ tt
 -- Each text fits where there is room.
 pub bill-fits : (m n : ℕ) (b : Bill) → length (billText m n b) ≤ 1024
 unfolding billText
-bill-fits m n b = fits billTemplate _ bill-most
+bill-fits m n b = template-fits billTemplate _ bill-most
 
 pub open-fits : (n : ℕ) → length (openText n) ≤ 32
 unfolding openText mostBytes
-open-fits n = fits (bytesOf "open=#\n") _ (lit≤ tt)
+open-fits n = template-fits (bytesOf "open=#\n") _ (lit≤ tt)
 
 pub line-fits : (n : ℕ) → length (lineText n) ≤ 32
 unfolding lineText mostBytes
-line-fits n = fits (bytesOf "line=#\n") _ (lit≤ tt)
+line-fits n = template-fits (bytesOf "line=#\n") _ (lit≤ tt)
 
 -- The numbers of a bill's line, where the calendar tells its year and month.
 pub bill-line : {o o1 : List ℕ} {i j y q : ℕ} (m n : ℕ) (b : Bill) → y ≡ yearOf m → q ≡ monthOfYear m

@@ -10,8 +10,8 @@ use lib.Dec.{leb, ltb}
 use lib.ListN.{length, set, length-append}
 use lib.Seq.{sets}
 use Rattle.text.proofs.Lists.{sets-append}
-use Rattle.printing.specs.Text.{digitByte, digits, mostBytes}
-use Rattle.printing.specs.Writing.{Wrote, Put, hasRoom}
+use Rattle.printing.specs.Text.{digitByte, digits}
+use Rattle.printing.specs.Writing.{fits, Wrote, PutIn}
 
 -- A text is written, and then another.
 pub then : {o o1 o2 xs ys : List ℕ} {i j k : ℕ} → Wrote o i xs o1 j → Wrote o1 j ys o2 k → Wrote o i (xs ++ ys) o2 k
@@ -60,10 +60,10 @@ unfolding digits
 wrote-more zero f h p = absurd (f refl)
 wrote-more {n = n} (suc k) f h p = rw (le-ltb n 10 h) (then (rw sub-one at p) (one _ _ _))
 
--- There is no room in a buffer shorter than a text.
-pub room-not : (out : List ℕ) (i : ℕ) → length out < 1024 → false ≡ hasRoom out i
-unfolding hasRoom
-room-not out i h = sym (lt-leb (i + 1024) (length out) (omega arith))
+-- Nothing fits that is longer than the buffer.
+pub fits-not : (room : ℕ) (out : List ℕ) (i : ℕ) → length out < room → false ≡ fits room out i
+unfolding fits
+fits-not room out i h = sym (lt-leb (i + room) (length out) (omega arith))
 
 -- Two tests agree where each outcome of the first is one of the second.
 same-test : (a b : Bool) → (a ≡ true → b ≡ true) → (a ≡ false → b ≡ false) → a ≡ b
@@ -71,28 +71,33 @@ same-test true b f g = sym (f refl)
 same-test false b f g = sym (g refl)
 
 -- The last place with room is so far before the end.
-pub room-same : (out : List ℕ) (i : ℕ) → 1024 ≤ length out → leb i (length out - 1024) ≡ hasRoom out i
-unfolding hasRoom
-room-same out i h = same-test (leb i (length out - 1024)) (leb (i + 1024) (length out))
-    (λ t. le-leb (i + 1024) (length out) (omega (arith, leb-true i (length out - 1024) t)))
-    (λ t. lt-leb (i + 1024) (length out) (omega (arith, leb-false i (length out - 1024) t)))
+pub fits-same : (room : ℕ) (out : List ℕ) (i : ℕ) → room ≤ length out → leb i (length out - room) ≡ fits room out i
+unfolding fits
+fits-same room out i h = same-test (leb i (length out - room)) (leb (i + room) (length out))
+    (λ t. le-leb (i + room) (length out) (omega (arith, leb-true i (length out - room) t)))
+    (λ t. lt-leb (i + room) (length out) (omega (arith, leb-false i (length out - room) t)))
 
--- Without room nothing is put.
-pub put-none : {out text : List ℕ} {i : ℕ} {r : Bool} → r ≡ hasRoom out i → not r ≡ true → Put out i text out i
-put-none {out} {text} {i} {r} e f =
-    let no = sym e ∙ not-true r f in
-    record {
-      bytes = sym (ap (λ (b : Bool). cond b (sets out i text) out) no);
-      end = sym (ap (λ (b : Bool). cond b (i + length text) i) no);
-    }
+module _ {room : ℕ} {out : List ℕ} {i : ℕ} where
+  -- Without room nothing is put.
+  pub put-none : {text : List ℕ} {r : Bool} → r ≡ fits room out i → not r ≡ true → PutIn room out i text out i
+  put-none {text} {r} e f =
+      let no = sym e ∙ not-true r f in
+      record {
+        bytes = sym (ap (λ (b : Bool). cond b (sets out i text) out) no);
+        end = sym (ap (λ (b : Bool). cond b (i + length text) i) no);
+      }
 
--- With room a text is put that is written.
-pub put-wrote : {out text after : List ℕ} {i j : ℕ} {r : Bool} → r ≡ hasRoom out i → not r ≡ false → Wrote out i text after j
-    → Put out i text after j
-put-wrote {r = r} e t w = let yes = sym e ∙ not-false r t in record { bytes = rw yes (w .bytes); end = rw yes (w .end) }
+  -- With room a text is put that is written,
+  pub put-wrote : {text after : List ℕ} {j : ℕ} {r : Bool} → r ≡ fits room out i → not r ≡ false → Wrote out i text after j
+      → PutIn room out i text after j
+  put-wrote {r = r} e t w = let yes = sym e ∙ not-false r t in record { bytes = rw yes (w .bytes); end = rw yes (w .end) }
 
--- Where there is room, there is for a template of at most so many bytes.
-pub room-for : (out : List ℕ) (i : ℕ) (t : List ℕ) {r : Bool} → r ≡ hasRoom out i → not r ≡ false → mostBytes t ≤ 1024
-    → i + mostBytes t ≤ length out
-unfolding hasRoom
-room-for out i t {r} e f h = omega (arith, leb-true (i + 1024) (length out) (sym e ∙ not-false r f))
+  -- and written that is put.
+  pub put-there : {text after : List ℕ} {j : ℕ} → i + room ≤ length out → PutIn room out i text after j → Wrote out i text after j
+  unfolding fits
+  put-there h w = let yes = le-leb (i + room) (length out) h in record { bytes = rw yes at (w .bytes); end = rw yes at (w .end) }
+
+-- Where so many bytes fit, they are there.
+pub room-for : (room : ℕ) (out : List ℕ) (i : ℕ) {r : Bool} → r ≡ fits room out i → not r ≡ false → i + room ≤ length out
+unfolding fits
+room-for room out i {r} e f = leb-true (i + room) (length out) (sym e ∙ not-false r f)

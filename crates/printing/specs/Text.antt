@@ -13,9 +13,12 @@ unfoldable pub digits : ℕ → ℕ → List ℕ
 digits zero n = []
 digits (suc k) n = cond (ltb n 10) (digitByte n ∷ []) (digits k (n / 10) ++ digitByte (n % 10) ∷ [])
 
--- A number of 64 bits has at most 20 digits.
+-- A number of 64 bits has at most this many digits.
+abbrev pub mostDigits : ℕ
+mostDigits = 20
+
 abbrev pub decimal : ℕ → List ℕ
-decimal n = digits 20 n
+decimal n = digits mostDigits n
 
 -- The byte of a template in whose place a number stands: `#`.
 abbrev pub mark : ℕ
@@ -27,7 +30,7 @@ filledIn [] ns = []
 filledIn (b ∷ t) [] = cond (eqb b mark) (filledIn t []) (b ∷ filledIn t [])
 filledIn (b ∷ t) (n ∷ ns) = cond (eqb b mark) (decimal n ++ filledIn t ns) (b ∷ filledIn t (n ∷ ns))
 
--- The most bytes that a template has once it is filled in: 20 for each mark.
+-- The most bytes that a template has once it is filled in.
 unfoldable pub mostBytes : List ℕ → ℕ
 mostBytes [] = 0
-mostBytes (b ∷ t) = cond (eqb b mark) 20 1 + mostBytes t
+mostBytes (b ∷ t) = cond (eqb b mark) mostDigits 1 + mostBytes t

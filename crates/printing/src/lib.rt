@@ -2,9 +2,9 @@
 ghost use mathlib.Core.Path.{_≡_};
 ghost use Prim.Native.Nat.{_+_, _≤_};
 ghost use lib.ListN.{length};
-ghost use Rattle.printing.specs.Text.{digits, filledIn, mostBytes};
+ghost use Rattle.printing.specs.Text.{digits, mostDigits, decimal, filledIn, mostBytes};
 ghost use Rattle.printing.specs.Printing.{billText, openText, lineText};
-ghost use Rattle.printing.specs.Writing.{textRoom, hasRoom, Wrote, Put};
+ghost use Rattle.printing.specs.Writing.{fits, Wrote, PutIn, textRoom, hasRoom, Put};
 use billing::Bill;
 
 // Each text has at most this many bytes.
@@ -30,15 +30,32 @@ fn put_digits(out: &mut [u8], at: usize, number: u64, most: usize) -> usize
     next + 1
 }
 
+// Whether a buffer has so many bytes from a place on.
+pub fn fits(out: &[u8], at: usize, room: usize) -> bool
+    ensures { λ r. ⌜ r ≡ fits room (now (out .entry)) at ⌝ }
+{
+    let length = out.len();
+    if length < room {
+        return false;
+    }
+    at <= length - room
+}
+
+// Writes a number in decimal, where any number of 64 bits fits, and says where it ends.
+pub fn put_number(out: &mut [u8], at: usize, number: u64) -> usize
+    ensures { λ r. ⌜ PutIn mostDigits (now (out .entry)) at (decimal number) (now (out .exit)) r ⌝ }
+{
+    if !fits(out, at, MOST_DIGITS) {
+        return at;
+    }
+    put_digits(out, at, number, MOST_DIGITS)
+}
+
 // Whether any one text fits into a buffer from a place on.
 pub fn has_room(out: &[u8], at: usize) -> bool
     ensures { λ r. ⌜ r ≡ hasRoom (now (out .entry)) at ⌝ }
 {
-    let length = out.len();
-    if length < TEXT_ROOM {
-        return false;
-    }
-    at <= length - TEXT_ROOM
+    fits(out, at, TEXT_ROOM)
 }
 
 // Writes a template with numbers in the places of its `#`s, where there is room, and says where it ends.

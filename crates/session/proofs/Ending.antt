@@ -7,7 +7,7 @@ use native.Mathlib.Omega.{arith}
 use borrow.Author.Tests.{le-leb, lt-leb, eq-eqb, ne-eqb}
 use lib.ListN.{length, take, length-take, length-append}
 use lib.Seq.{length-sets}
-use Rattle.printing.specs.Writing.{hasRoom, Wrote, Put}
+use Rattle.printing.specs.Writing.{fits, hasRoom, Wrote, Put}
 use Rattle.lines.specs.Statement.{State, lineRead, atEnd}
 use Rattle.progress.specs.Progressing.{Reads}
 use Rattle.lines.specs.Feeding.{SoFar, ending, stateAtEnd, Registers, withReadings}
@@ -33,7 +33,7 @@ wrote-all {out = out} h k e w =
     record { buffers = rw yes e; bytes = rw yes (w .bytes); end = rw yes (omega arith); fits = omega arith }
 
 room-here : (out : List ℕ) (i : ℕ) → i + 1024 ≤ length out → hasRoom out i ≡ true
-unfolding hasRoom
+unfolding fits
 room-here out i h = le-leb (i + 1024) (length out) h
 
 -- No byte is held.

@@ -8,7 +8,7 @@ use native.Mathlib.Omega.{arith}
 use borrow.Author.Tests.{le-leb, lt-leb, leb-true, leb-false, not-true, not-false}
 use lib.ListN.{length, take, drop, length-append, length-drop, drop-of-length-le}
 use lib.Seq.{sets, length-sets, take-all, take-add, drop-drop}
-use Rattle.printing.specs.Writing.{hasRoom, Wrote}
+use Rattle.printing.specs.Writing.{fits, hasRoom, Wrote}
 use Rattle.lines.specs.Feeding.{SoFar, after, printed, takenOf, registersAfter}
 use Rattle.session.specs.declared.Session.{Session}
 use Rattle.session.specs.Sessions.{Lent, soFarOf, leastRoom, lentAfter, Feeds}
@@ -69,11 +69,11 @@ pub same-long : {before current : SoFar} {b c : Lent} {input out outCurrent : Li
 same-long g = ap length (g .text .bytes) ∙ simp length-sets
 
 room-left : (out : List ℕ) (i : ℕ) → hasRoom out i ≡ true → i + 1024 ≤ length out
-unfolding hasRoom
+unfolding fits
 room-left out i h = leb-true _ _ h
 
 no-room : (out : List ℕ) (i : ℕ) → hasRoom out i ≡ false → length out < i + 1024
-unfolding hasRoom
+unfolding fits
 no-room out i h = leb-false _ _ h
 
 pub room-yes : (out : List ℕ) (i : ℕ) (r : Bool) → r ≡ hasRoom out i → not r ≡ false → hasRoom out i ≡ true

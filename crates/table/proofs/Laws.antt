@@ -7,11 +7,11 @@ use native.Mathlib.Omega.{arith}
 use borrow.Author.Tests.{leb-true}
 use lib.Dec.{eqb, leb, lit≤}
 use lib.ListN.{length, getD, length-append}
+use Rattle.printing.specs.Writing.{fits, PutIn}
 use Rattle.table.specs.Numbers.{numbersOf, kindOf, refusalOf}
 use Rattle.table.specs.Reasons.{rowOf, wrongAt, explainedAt}
-use Rattle.table.specs.Table.{anyWide, widthOf, tableOf}
+use Rattle.table.specs.Table.{anyWide, widthOf, tableOf, tableRoom}
 use Rattle.table.specs.Explaining.{explanationOf}
-use Rattle.table.specs.Writing.{hasTableRoom, PutTable}
 use Rattle.table.specs.Filling.{markedBy, filledBy, mostFilled, templates, firstMarks, partOf, textOf, tableText, explanationText}
 use Rattle.table.proofs.Filling.{marked-length}
 use Rattle.table.proofs.Reasons.{row-within}
@@ -69,10 +69,10 @@ explanation-short l =
     (text-length ns 13 (explanationText kind n) (explainedAt (rowOf kind n)) (lit≤ tt) (explained-short (rowOf kind n) (row-within kind n refl)))
 
 -- What was put from the front of a buffer on ends within it.
-pub put-within : {before text after : List ℕ} {j : ℕ} → PutTable before 0 text after j → length text ≤ 2048 → j ≤ length before
-unfolding hasTableRoom
-put-within {before} {text} {after} {j} put short = by (leb 2048 (length before)) refl (put .end)
+pub put-within : {before text after : List ℕ} {j : ℕ} → PutIn tableRoom before 0 text after j → length text ≤ tableRoom → j ≤ length before
+unfolding fits
+put-within {before} {text} {after} {j} put short = by (leb tableRoom (length before)) refl (put .end)
   where
-    by : (t : Bool) → leb 2048 (length before) ≡ t → j ≡ cond t (0 + length text) 0 → j ≤ length before
-    by true e end = let room = leb-true 2048 (length before) e in omega arith
+    by : (t : Bool) → leb tableRoom (length before) ≡ t → j ≡ cond t (0 + length text) 0 → j ≤ length before
+    by true e end = let room = leb-true tableRoom (length before) e in omega arith
     by false e end = omega arith

@@ -1,54 +1,14 @@
--- Tables written where there is room.
-use mathlib.Core.Path.{_≡_, refl, _∙_, sym, ap}
+-- Bytes and columns written one after the other.
+use mathlib.Core.Path.{_≡_, refl}
 use mathlib.Core.List.{List, _∷_}
-use mathlib.Core.Bool.{Bool, true, false, not, cond}
 use Prim.Native.Nat.{ℕ, zero, suc, _+_, _-_, _≤_, _<_}
 use native.Mathlib.Numerals.{add-one, sub-one}
 use native.Mathlib.Omega.{arith}
-use borrow.Author.Tests.{le-leb, lt-leb, leb-true, leb-false, not-true, not-false}
-use lib.Dec.{leb}
 use lib.ListN.{length, getD, drop, set, length-append, drop-of-length-le}
 use lib.Seq.{sets, drop-cons}
 use Rattle.printing.specs.Writing.{Wrote}
 use Rattle.printing.proofs.Writing.{then, one}
 use Rattle.table.specs.Table.{columnByte, columnRest, column}
-use Rattle.table.specs.Writing.{hasTableRoom, PutTable}
-
--- There is no room in a buffer shorter than a table.
-pub room-not : (out : List ℕ) (i : ℕ) → length out < 2048 → false ≡ hasTableRoom out i
-unfolding hasTableRoom
-room-not out i h = sym (lt-leb (i + 2048) (length out) (omega arith))
-
--- Two tests agree where each outcome of the first is one of the second.
-same-test : (a b : Bool) → (a ≡ true → b ≡ true) → (a ≡ false → b ≡ false) → a ≡ b
-same-test true b f g = sym (f refl)
-same-test false b f g = sym (g refl)
-
--- The last place with room is so far before the end.
-pub room-same : (out : List ℕ) (i : ℕ) → 2048 ≤ length out → leb i (length out - 2048) ≡ hasTableRoom out i
-unfolding hasTableRoom
-room-same out i h = same-test (leb i (length out - 2048)) (leb (i + 2048) (length out))
-    (λ t. le-leb (i + 2048) (length out) (omega (arith, leb-true i (length out - 2048) t)))
-    (λ t. lt-leb (i + 2048) (length out) (omega (arith, leb-false i (length out - 2048) t)))
-
--- Without room nothing is put.
-pub put-none : {out text : List ℕ} {i : ℕ} {r : Bool} → r ≡ hasTableRoom out i → not r ≡ true → PutTable out i text out i
-put-none {out} {text} {i} {r} e f =
-    let no = sym e ∙ not-true r f in
-    record {
-      bytes = sym (ap (λ (b : Bool). cond b (sets out i text) out) no);
-      end = sym (ap (λ (b : Bool). cond b (i + length text) i) no);
-    }
-
--- With room a text is put that is written.
-pub put-wrote : {out text after : List ℕ} {i j : ℕ} {r : Bool} → r ≡ hasTableRoom out i → not r ≡ false → Wrote out i text after j
-    → PutTable out i text after j
-put-wrote {r = r} e t w = let yes = sym e ∙ not-false r t in record { bytes = rw yes (w .bytes); end = rw yes (w .end) }
-
--- Where there is room, there is for so many bytes.
-pub room-for : (out : List ℕ) (i : ℕ) {r : Bool} → r ≡ hasTableRoom out i → not r ≡ false → i + 2048 ≤ length out
-unfolding hasTableRoom
-room-for out i {r} e f = leb-true (i + 2048) (length out) (sym e ∙ not-false r f)
 
 -- Bytes are written one after the other.
 pub bytes-next : (out : List ℕ) {target : List ℕ} (bytes : List ℕ) (j p : ℕ) → p < length bytes → sets out j (drop p bytes) ≡ target

@@ -3,4 +3,3 @@ pub mod Filling
 pub mod Numbers
 pub mod Reasons
 pub mod Table
-pub mod Writing

@@ -99,3 +99,7 @@ tableFor kind ns n =
 
 unfoldable pub tableOf : List ℕ → List ℕ
 tableOf l = tableFor (kindOf l) (numbersOf l) (refusalOf (kindOf l) (numbersOf l))
+
+-- A table or an explanation has at most this many bytes.
+abbrev pub tableRoom : ℕ
+tableRoom = 2048

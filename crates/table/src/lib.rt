@@ -4,13 +4,11 @@ ghost use mathlib.Core.Bool.{true};
 ghost use Prim.Native.Nat.{_+_, _*_, _≤_, _<_};
 ghost use lib.ListN.{length, drop, take};
 ghost use Rattle.numerals.specs.Numerals.{isDigit};
-ghost use Rattle.printing.specs.Text.{digits};
-ghost use Rattle.printing.specs.Writing.{Wrote};
+ghost use Rattle.printing.specs.Writing.{Wrote, PutIn};
 ghost use Rattle.table.specs.Numbers.{capped, withDigit, numbersOf, kindOf, refusalOf};
 ghost use Rattle.table.specs.Reasons.{rowOf};
-ghost use Rattle.table.specs.Table.{cellAt, columnByte, columnRest, column, tableOf};
+ghost use Rattle.table.specs.Table.{cellAt, columnByte, columnRest, column, tableOf, tableRoom};
 ghost use Rattle.table.specs.Explaining.{explanationOf};
-ghost use Rattle.table.specs.Writing.{hasTableRoom, PutTable};
 ghost use Rattle.table.specs.Filling.{NextNumber, Width, Chosen, shownOf, plainValue, markedBy, filledBy, mostFilled, partOf, reasons, textOf, tableText, explanationText};
 
 // A table or an explanation has at most this many bytes.
@@ -28,9 +26,6 @@ const NARROW_MOST: u64 = 999_999_999;
 const NARROW: usize = 13;
 
 const WIDE: usize = 28;
-
-// The most digits of a number of 64 bits.
-const MOST_DIGITS: usize = 20;
 
 // The kinds of lines, by their first byte.
 const OPENING: u8 = b'o';
@@ -282,23 +277,6 @@ fn put_column(out: &mut [u8], at: usize, number: u64, width: usize, place: usize
     next + 1
 }
 
-// Writes a number in decimal, of which there are at most so many digits.
-fn put_decimal(out: &mut [u8], at: usize, number: u64, most: usize) -> usize
-    requires { ⌜ at + most ≤ length (now out) ⌝ }
-    ensures { λ r. ⌜ Wrote (now (out .entry)) at (digits most number) (now (out .exit)) r ⌝ }
-{
-    if most == 0 {
-        return at;
-    }
-    if number < 10 {
-        out[at] = 48 + number as u8;
-        return at + 1;
-    }
-    let next = put_decimal(out, at, number / 10, most - 1);
-    out[next] = 48 + (number % 10) as u8;
-    next + 1
-}
-
 fn put_bytes(out: &mut [u8], at: usize, bytes: &[u8]) -> usize
     requires { ⌜ at + length (now bytes) ≤ length (now out) ⌝ }
     ensures { λ r. ⌜ Wrote (now (out .entry)) at (now (bytes .entry)) (now (out .exit)) r ⌝ }
@@ -375,7 +353,7 @@ fn put_mark(out: &mut [u8], at: usize, numbers: &[u64; 33], width: usize, mark: 
     ensures { λ r. ⌜ Wrote (now (out .entry)) at (markedBy (now (numbers .entry)) width mark) (now (out .exit)) r ⌝ }
 {
     if mark < 7 {
-        return put_decimal(out, at, plain_value(numbers, mark % 4), MOST_DIGITS);
+        return printing::put_number(out, at, plain_value(numbers, mark % 4));
     }
     let shown = shown_in(numbers, width, mark - 7);
     put_column(out, at, shown.value, shown.width, shown.place)
@@ -544,22 +522,11 @@ fn explanation_text(kind: u8, refusal: u64) -> usize
     MONTH_EXPLAINED
 }
 
-// Whether any table or explanation fits into a buffer from a place on.
-pub fn has_table_room(out: &[u8], at: usize) -> bool
-    ensures { λ r. ⌜ r ≡ hasTableRoom (now (out .entry)) at ⌝ }
-{
-    let length = out.len();
-    if length < TABLE_ROOM {
-        return false;
-    }
-    at <= length - TABLE_ROOM
-}
-
 // Writes the table for a printed line, where there is room, and says where it ends.
 pub fn put_table(out: &mut [u8], at: usize, line: &[u8]) -> usize
-    ensures { λ r. ⌜ PutTable (now (out .entry)) at (tableOf (now (line .entry))) (now (out .exit)) r ⌝ }
+    ensures { λ r. ⌜ PutIn tableRoom (now (out .entry)) at (tableOf (now (line .entry))) (now (out .exit)) r ⌝ }
 {
-    if !has_table_room(out, at) {
+    if !printing::fits(out, at, TABLE_ROOM) {
         return at;
     }
     let numbers = numbers_of(line);
@@ -573,9 +540,9 @@ pub fn put_table(out: &mut [u8], at: usize, line: &[u8]) -> usize
 
 // Writes the explanation of a printed line, where there is room, and says where it ends.
 pub fn put_explanation(out: &mut [u8], at: usize, line: &[u8]) -> usize
-    ensures { λ r. ⌜ PutTable (now (out .entry)) at (explanationOf (now (line .entry))) (now (out .exit)) r ⌝ }
+    ensures { λ r. ⌜ PutIn tableRoom (now (out .entry)) at (explanationOf (now (line .entry))) (now (out .exit)) r ⌝ }
 {
-    if !has_table_room(out, at) {
+    if !printing::fits(out, at, TABLE_ROOM) {
         return at;
     }
     let numbers = numbers_of(line);

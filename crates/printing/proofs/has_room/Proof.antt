@@ -1,13 +1,13 @@
--- `printing::has_room` asks without a sum, which could wrap.
-use Rattle.printing.proofs.Writing.{room-not, room-same}
+-- `printing::has_room` asks `fits`.
+use borrow.Author.Needs.{needs}
 use Rattle.printing.proofs.has_room.Statement.{statement}
 use Rattle.printing.proofs.has_room.Tie as tie
 
-returns : tie.Need-returns
-returns c = room-not (c .before .args .out .now) (c .before .args .at) (c .if1 .taken)
+fits-requires : tie.Need-fits-requires
+fits-requires c κs = search needs
 
-returns-2 : tie.Need-returns-2
-returns-2 c = room-same (c .before .args .out .now) (c .before .args .at) (c .if1 .left)
+returns : tie.Need-returns
+returns c = c .fits2 .ensures
 
 pub has-room-spec : {M : Type 1} → statement M
-has-room-spec = tie.close (tie.spec returns returns-2)
+has-room-spec = tie.close (tie.spec fits-requires returns)

@@ -26,7 +26,7 @@ returns c = put-none (c .before .has-room .ensures) (c .if1 .taken)
 loop-holds : tie.Need-loop-holds Inv-loop μ-loop
 loop-holds c =
     let entry = c .before .before .before .before .before .before in
-    starts _ _ _ _ (room-for _ _ _ (c .before .has-room .ensures) (c .if1 .left) (entry .pre))
+    starts _ _ _ _ (omega (arith, room-for _ _ _ (c .before .has-room .ensures) (c .if1 .left), entry .pre))
 
 shared-slice-read-byte : tie.Need-shared-slice-read-byte Inv-loop μ-loop
 shared-slice-read-byte c = omega arith

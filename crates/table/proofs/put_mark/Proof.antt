@@ -2,6 +2,7 @@
 use Prim.Native.Nat.{_-_}
 use native.Mathlib.Omega.{arith}
 use borrow.Author.Tests.{lt-ltb, le-ltb}
+use Rattle.printing.proofs.Writing.{put-there}
 use Rattle.table.specs.Filling.{markedBy}
 use Rattle.table.proofs.Filling.{shows-fit}
 use borrow.Author.Needs.{needs}
@@ -11,8 +12,8 @@ use Rattle.table.proofs.put_mark.Tie as tie
 plain-value-requires : tie.Need-plain-value-requires
 plain-value-requires c κs = search needs
 
-put-decimal-requires : tie.Need-put-decimal-requires
-put-decimal-requires c κs = search needs
+put-number-requires : tie.Need-put-number-requires
+put-number-requires c κs = search needs
 
 same-length : tie.Need-same-length
 same-length c = search needs
@@ -21,7 +22,7 @@ returns : tie.Need-returns
 unfolding markedBy
 returns c =
     let call = c .before .before in
-    simp (lt-ltb _ _ (call .before .before .before .if1 .taken), ← (call .before .plain-value .ensures)) (call .put-decimal .ensures)
+    simp (lt-ltb _ _ (call .before .before .before .if1 .taken), ← (call .before .plain-value .ensures)) (put-there (omega arith) (call .put-number .ensures))
 
 shown-in-requires : tie.Need-shown-in-requires
 shown-in-requires c κs = search needs
@@ -48,7 +49,7 @@ put-mark-spec =
     tie.close
     (tie.spec
     plain-value-requires
-    put-decimal-requires
+    put-number-requires
     same-length
     returns
     shown-in-requires

@@ -1,20 +1,20 @@
 -- `table::put_table` chooses the template and the reason, and fills it in.
 use lib.Dec.{lit≤}
 use Rattle.table.proofs.Reasons.{row-within}
-use Rattle.table.proofs.Writing.{put-none, put-wrote, room-for}
+use Rattle.printing.proofs.Writing.{put-none, put-wrote, room-for}
 use Rattle.table.proofs.Showing.{table-is, table-within}
 use borrow.Author.Needs.{needs}
 use Rattle.table.proofs.put_table.Statement.{statement}
 use Rattle.table.proofs.put_table.Tie as tie
 
-has-table-room-requires : tie.Need-has-table-room-requires
-has-table-room-requires c κs = search needs
+fits-requires : tie.Need-fits-requires
+fits-requires c κs = search needs
 
 same-length : tie.Need-same-length
 same-length c = search needs
 
 returns : tie.Need-returns
-returns c = put-none (c .before .has-table-room .ensures) (c .if1 .taken)
+returns c = put-none (c .before .fits2 .ensures) (c .if1 .taken)
 
 numbers-of-requires : tie.Need-numbers-of-requires
 numbers-of-requires c κs = search needs
@@ -38,7 +38,7 @@ put-text-requires : tie.Need-put-text-requires
 put-text-requires c κs =
     let width = c .before .before .before .before .width-of .ensures in
     let test = c .before .before .before .before .before .before .before .before .before .before in (
-      room-for _ _ (test .before .has-table-room .ensures) (test .if1 .left),
+      room-for _ _ _ (test .before .fits2 .ensures) (test .if1 .left),
       width .least,
       width .most,
       table-within _ _ (c .before .before .before .table-text .ensures),
@@ -58,7 +58,7 @@ returns-2 c =
     let refusal = call .before .before .before .before .before .before .before in
     let kind = refusal .before .before in
     let test = kind .before .before in
-    put-wrote (test .before .has-table-room .ensures) (test .if1 .left)
+    put-wrote (test .before .fits2 .ensures) (test .if1 .left)
     (table-is _ (kind .kind-of .ensures) (kind .before .numbers-of .ensures) (refusal .refusal-of .ensures) row (width .ensures .is) text
     (call .put-text .ensures))
 
@@ -66,7 +66,7 @@ pub put-table-spec : {M : Type 1} → statement M
 put-table-spec =
     tie.close
     (tie.spec
-    has-table-room-requires
+    fits-requires
     same-length
     returns
     numbers-of-requires
