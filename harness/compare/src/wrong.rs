@@ -232,7 +232,10 @@ fn clocks_by(month: u32, day: u32, from: u32, forward: Change, back: Change) -> 
 /// doubled, no bill shows: both hours are discount. The proofs exclude it.
 fn clocks() -> Vec<Named> {
     vec![
-        ("the clocks never change", with_clocks(|_, _| Clocks::Unchanged)),
+        (
+            "the clocks never change",
+            with_clocks(|_, _| Clocks::Unchanged),
+        ),
         (
             "the clocks change from 2006 on",
             with_clocks(|month, day| clocks_by(month, day, 2006, FORWARD, BACK)),
