@@ -14,8 +14,7 @@ use Rattle.printing.specs.Writing.{Wrote}
 use Rattle.printing.proofs.Writing.{one, digits-length}
 use Rattle.text.proofs.Lists.{sets-append}
 use Rattle.table.specs.declared.Shown.{Shown}
-use Rattle.table.specs.Table.{cellAt, column}
-use Rattle.table.specs.Filling.{plainValue, shownOf, markedBy, filledBy, mostFilled}
+use Rattle.table.specs.Filling.{cellAt, column, plainValue, shownOf, markedBy, filledBy, mostFilled}
 use Rattle.table.proofs.Writing.{column-length}
 
 -- A number and what follows it have at most 28 bytes.

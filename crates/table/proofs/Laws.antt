@@ -10,9 +10,10 @@ use lib.ListN.{length, getD, length-append}
 use Rattle.printing.specs.Writing.{fits, PutIn}
 use Rattle.table.specs.Numbers.{numbersOf, kindOf, refusalOf}
 use Rattle.table.specs.Reasons.{rowOf, wrongAt, explainedAt}
-use Rattle.table.specs.Table.{anyWide, widthOf, tableOf, tableRoom}
+use Rattle.table.specs.Table.{shownNumbers, anyWide, widthOf, tableOf, tableRoom}
 use Rattle.table.specs.Explaining.{explanationOf}
 use Rattle.table.specs.Filling.{markedBy, filledBy, mostFilled, templates, firstMarks, partOf, textOf, tableText, explanationText}
+use Rattle.table.proofs.Numbers.{numbers-held}
 use Rattle.table.proofs.Filling.{marked-length}
 use Rattle.table.proofs.Reasons.{row-within}
 use Rattle.table.proofs.Showing.{table-for, explanation-for, wrong-is, explained-is}
@@ -56,8 +57,8 @@ table-short l =
     let kind = kindOf l in
     let ns = numbersOf l in
     let n = refusalOf kind ns in
-    rw (← table-for kind ns n)
-    (text-length ns (widthOf ns) (tableText kind n) (wrongAt (rowOf kind n)) (width-most (anyWide ns 37)) (wrong-short (rowOf kind n)))
+    rw (← (table-for kind ns n (numbers-held l)))
+    (text-length ns (widthOf ns) (tableText kind n) (wrongAt (rowOf kind n)) (width-most (anyWide (shownNumbers ns))) (wrong-short (rowOf kind n)))
 
 pub explanation-short : (l : List ℕ) → length (explanationOf l) ≤ 2048
 unfolding explanationOf

@@ -1,8 +1,8 @@
 -- The numbers of a line, digit after digit and number after number.
 use mathlib.Core.Path.{_≡_, refl, sym, _∙_, ap}
-use mathlib.Core.Bool.{Bool, true, false, false≢true}
+use mathlib.Core.Bool.{Bool, true, false, false≢true, cond}
 use mathlib.Core.List.{List, [], _∷_, _++_, append-assoc, append-nil}
-use Prim.Native.Nat.{ℕ, suc, _+_, _-_, _*_, _/_, _≤_, _<_}
+use Prim.Native.Nat.{ℕ, zero, suc, _+_, _-_, _*_, _/_, _≤_, _<_}
 use native.Mathlib.Numerals.{add-one}
 use native.Mathlib.Omega.{arith}
 use borrow.Author.Tests.{leb-true}
@@ -28,6 +28,10 @@ digit-over v b h = omega arith
 pub digit-fits : (v b : ℕ) → b ≤ 57 → v ≤ (18446744073709551615 - (b - 48)) / 10 → v * 10 + (b - 48) ≡ withDigit v b
 unfolding withDigit
 digit-fits v b l h = omega arith
+
+digit-held : (v b : ℕ) → withDigit v b ≤ 18446744073709551615
+unfolding withDigit
+digit-held v b = omega arith
 
 -- The number that is being read, and what is left of the line.
 pub record Reading (l : List ℕ) (v : ℕ) (inside : Bool) (line : List ℕ) (p : ℕ) : Type 0 where
@@ -108,3 +112,39 @@ collect-all {line} {numbers} {p} {k} g h =
     let w = g .within in
     let e : k ≡ 33 = omega arith in
     sym (append-nil numbers) ∙ rw (e, take-all 33 numbers (omega arith)) at (g .same)
+
+-- No number of a line is larger than 64 bits hold.
+abbrev pub Held : List ℕ → Type 0
+Held ns = (k : ℕ) → getD ns k 0 ≤ 18446744073709551615
+
+held-none : Held []
+held-none k = lit≤ tt
+
+held-one : (n : ℕ) (ns : List ℕ) → n ≤ 18446744073709551615 → Held ns → Held (n ∷ ns)
+held-one n ns h f zero = h
+held-one n ns h f (suc k) = f k
+
+held-after : (l : List ℕ) (inside : Bool) (v : ℕ) → v ≤ 18446744073709551615 → Held (numbersAfter inside v l)
+unfolding numbersAfter
+held-after [] inside v h = by inside
+  where
+    by : (t : Bool) → Held (cond t (v ∷ []) [])
+    by true = held-one v [] h held-none
+    by false = held-none
+held-after (b ∷ l) inside v h = by (isDigit b) inside (held-after l true (withDigit v b) (digit-held v b)) (held-after l false 0 (lit≤ tt))
+  where
+    by : (d t : Bool) → Held (numbersAfter true (withDigit v b) l) → Held (numbersAfter false 0 l)
+        → Held (cond d (numbersAfter true (withDigit v b) l) (cond t (v ∷ numbersAfter false 0 l) (numbersAfter false 0 l)))
+    by true t f g = f
+    by false true f g = held-one v (numbersAfter false 0 l) h g
+    by false false f g = g
+
+held-first : (k : ℕ) (ns : List ℕ) → Held ns → Held (firstOf k ns)
+unfolding firstOf
+held-first zero ns f = held-none
+held-first (suc k) [] f = held-one 0 (firstOf k []) (lit≤ tt) (held-first k [] held-none)
+held-first (suc k) (n ∷ ns) f = held-one n (firstOf k ns) (f 0) (held-first k ns (λ i. f (suc i)))
+
+pub numbers-held : (l : List ℕ) → Held (numbersOf l)
+unfolding numbersOf
+numbers-held l = held-first 33 (numbersAfter false 0 l) (held-after l false 0 (lit≤ tt))

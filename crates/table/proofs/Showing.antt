@@ -2,66 +2,84 @@
 use mathlib.Core.Path.{_≡_, refl, sym, ap, _∙_}
 use mathlib.Core.Bool.{Bool, true, false, cond}
 use mathlib.Core.List.{List, [], _∷_, _++_, append-assoc, append-nil}
-use Prim.Native.Nat.{ℕ, zero, suc, _+_, _*_, _<_}
+use Prim.Native.Nat.{ℕ, zero, suc, _+_, _-_, _*_, _/_, _%_, _≤_, _<_}
 use native.Mathlib.Omega.{arith}
-use lib.Dec.{eqb, lit≤}
-use lib.ListN.{length, getD, replicate}
+use lib.Dec.{eqb, ltb, lit≤}
+use lib.ListN.{length, getD, take, drop, replicate}
 use Rattle.text.specs.Text.{bytesOf}
-use Rattle.printing.specs.Text.{decimal}
+use Rattle.printing.specs.Text.{digitByte, decimal}
 use Rattle.printing.specs.Writing.{Wrote}
 use Rattle.table.specs.Numbers.{opening, month, stop, numbersOf, kindOf, refusalOf}
 use Rattle.table.specs.Reasons.{wrong, toDo, rowOf, wrongAt, explainedAt}
-use Rattle.table.specs.Table.{joined, monthParts, cellAt, column, seven, dollars, anyWide, widthOf, monthTable, tableFor, tableOf}
+use Rattle.table.specs.Table.{joined, monthParts, energy, due, grouped, rightIn, shownNumbers, anyWide, widthOf, monthTable, tableFor, tableOf}
 use Rattle.table.specs.Explaining.{explanationFor, explanationOf}
-use Rattle.table.specs.Filling.{plainValue, shownOf, markedBy, filledBy, templates, inTurn, reasons, partOf, textOf, tableText, explanationText}
+use Rattle.table.specs.Filling.{cellAt, column, plainValue, shownOf, markedBy, filledBy, templates, inTurn, reasons, partOf, textOf, tableText, explanationText}
+use Rattle.table.proofs.Numbers.{Held, numbers-held}
 use Rattle.table.proofs.Reasons.{row-within}
+use Rattle.table.proofs.Cells.{upTo}
+use Rattle.table.proofs.Fitting.{Stands, blanks, cells-stand}
 use Rattle.table.proofs.Texts.{part-one}
 
--- The blanks before the headings of wide columns, and of narrow ones.
-wide-blanks : column 15 1 0 ≡ replicate 15 32
-unfolding column
-wide-blanks = refl
-
-narrow-blanks : column 0 1 0 ≡ []
-unfolding column
-narrow-blanks = refl
-
--- The table of a month, with blanks before each heading.
-abbrev headed : List ℕ → ℕ → List ℕ → List ℕ
-headed ns w blanks =
+-- The table of a month, from the blanks before each heading, its numbers and the digits of its cents.
+abbrev shaped : List ℕ → List ℕ → List (List ℕ) → List (List ℕ) → List ℕ
+shaped ns blank cells cents =
     joined
     (monthParts ns
-    ++ (bytesOf " " ∷ blanks ∷ bytesOf "        3 own" ∷ blanks ∷ bytesOf "        4 out" ∷ blanks ∷ bytesOf "         5 in"
-    ∷ blanks ∷ bytesOf "       6 paid" ∷ blanks ∷ bytesOf "  7 forfeited" ∷ blanks ∷ bytesOf "     8 billed"
-    ∷ blanks ∷ bytesOf "       9 left" ∷ [])
-    ++ (bytesOf "\ncritical" ∷ seven ns w 0)
-    ++ (bytesOf "\non-peak " ∷ seven ns w 7)
-    ++ (bytesOf "\noff-peak" ∷ seven ns w 14)
-    ++ (bytesOf "\ndiscount" ∷ seven ns w 21)
-    ++ (bytesOf "\nsum     " ∷ seven ns w 28)
-    ++ (bytesOf "\nenergy  " ∷ dollars w (cellAt ns 35))
-    ++ (bytesOf "\ndue     " ∷ dollars w (cellAt ns 36))
+    ++ (bytesOf " " ∷ blank ∷ bytesOf "        3 own" ∷ blank ∷ bytesOf "        4 out" ∷ blank ∷ bytesOf "         5 in"
+    ∷ blank ∷ bytesOf "       6 paid" ∷ blank ∷ bytesOf "  7 forfeited" ∷ blank ∷ bytesOf "     8 billed"
+    ∷ blank ∷ bytesOf "       9 left" ∷ [])
+    ++ (bytesOf "\ncritical" ∷ take 7 cells)
+    ++ (bytesOf "\non-peak " ∷ take 7 (drop 7 cells))
+    ++ (bytesOf "\noff-peak" ∷ take 7 (drop 14 cells))
+    ++ (bytesOf "\ndiscount" ∷ take 7 (drop 21 cells))
+    ++ (bytesOf "\nsum     " ∷ take 7 (drop 28 cells))
+    ++ (bytesOf "\nenergy  " ∷ getD cells 35 [] ∷ bytesOf "." ∷ take 2 cents)
+    ++ (bytesOf "\ndue     " ∷ getD cells 36 [] ∷ bytesOf "." ∷ drop 2 cents)
     ++ (bytesOf "\n\n" ∷ []))
 
-month-wide : (ns reason : List ℕ) → monthTable ns 28 ≡ textOf ns 28 4 reason
-unfolding monthTable textOf partOf templates filledBy markedBy shownOf plainValue
-month-wide ns reason = ap (headed ns 28) (sym wide-blanks)
+-- Its numbers, and in dollars the last two, each put into so many bytes.
+abbrev cellsBy : (ℕ → ℕ → List ℕ) → List ℕ → ℕ → ℕ → List ℕ
+cellsBy put ns w k = cond (ltb k 35) (put w (cellAt ns k)) (put (w - 3) (cellAt ns k / 100))
 
-month-narrow : (ns reason : List ℕ) → monthTable ns 13 ≡ textOf ns 13 4 reason
-unfolding monthTable textOf partOf templates filledBy markedBy shownOf plainValue
-month-narrow ns reason = ap (headed ns 13) (sym narrow-blanks)
+-- The digits of its cents.
+abbrev centsBy : (ℕ → List ℕ) → List ℕ → List (List ℕ)
+centsBy last ns = last (energy ns / 10) ∷ last (energy ns) ∷ last (due ns / 10) ∷ last (due ns) ∷ []
 
-month-is : (ns reason : List ℕ) → monthTable ns (widthOf ns) ≡ textOf ns (widthOf ns) 4 reason
+-- In columns they are the same.
+same-cells : (ns : List ℕ) (w : ℕ) → ((k : ℕ) → k < 37 → Stands w (cellAt ns k)) → (m : ℕ) → m ≤ 37
+    → upTo (cellsBy (λ v n. rightIn v (grouped n)) ns w) m ≡ upTo (cellsBy (λ v n. column v 0 n) ns w) m
+same-cells ns w f zero h = refl
+same-cells ns w f (suc m) h =
+    let one = f m (omega arith) in
+    rw (same-cells ns w f m (omega arith), one .0, one .1)
+
+same-cents : (ns : List ℕ) → centsBy (λ n. digitByte (n % 10) ∷ []) ns ≡ centsBy (λ n. column 1 0 n) ns
+unfolding column
+same-cents ns = refl
+
+same-shape : (ns : List ℕ) {b c : List ℕ} {x y z u : List (List ℕ)} → b ≡ c → x ≡ y → z ≡ u → shaped ns b x z ≡ shaped ns c y u
+same-shape ns p q r = rw (p, q, r)
+
+month-wide : (ns reason : List ℕ) → ((k : ℕ) → k < 37 → Stands 28 (cellAt ns k)) → monthTable ns 28 ≡ textOf ns 28 4 reason
+unfolding monthTable textOf partOf templates filledBy markedBy shownOf plainValue cellAt
+month-wide ns reason f = same-shape ns (sym (blanks 15 1 (lit≤ tt))) (same-cells ns 28 f 37 (lit≤ tt)) (same-cents ns)
+
+month-narrow : (ns reason : List ℕ) → ((k : ℕ) → k < 37 → Stands 13 (cellAt ns k)) → monthTable ns 13 ≡ textOf ns 13 4 reason
+unfolding monthTable textOf partOf templates filledBy markedBy shownOf plainValue cellAt
+month-narrow ns reason f = same-shape ns (sym (blanks 0 1 (lit≤ tt))) (same-cells ns 13 f 37 (lit≤ tt)) (same-cents ns)
+
+month-is : (ns reason : List ℕ) → Held ns → monthTable ns (widthOf ns) ≡ textOf ns (widthOf ns) 4 reason
 unfolding widthOf
-month-is ns reason = by (anyWide ns 37)
+month-is ns reason f = by (anyWide (shownNumbers ns)) (cells-stand ns f)
   where
-    by : (t : Bool) → monthTable ns (cond t 28 13) ≡ textOf ns (cond t 28 13) 4 reason
+    by : (t : Bool) → ((k : ℕ) → k < 37 → Stands (cond t 28 13) (cellAt ns k))
+        → monthTable ns (cond t 28 13) ≡ textOf ns (cond t 28 13) 4 reason
     by true = month-wide ns reason
     by false = month-narrow ns reason
 
 -- What is shown, by the tests for the kinds and for a refusal.
 module _ (ns reason : List ℕ) where
-  table-by : (s o m z : Bool)
+  table-by : Held ns → (s o m z : Bool)
       → cond s (joined (bytesOf "stopped at line " ∷ decimal (getD ns 0 0) ∷ bytesOf "\n\n" ∷ []))
       (cond o
       (cond z (bytesOf "account opened\n\n")
@@ -74,12 +92,12 @@ module _ (ns reason : List ℕ) where
       []))
       ≡ textOf ns (widthOf ns) (cond s 2 (cond o (cond z 0 1) (cond m (cond z 4 3) 5))) reason
   unfolding textOf partOf templates filledBy markedBy plainValue
-  table-by true o m z = refl
-  table-by false true m true = refl
-  table-by false true m false = refl
-  table-by false false true true = month-is ns reason
-  table-by false false true false = refl
-  table-by false false false z = refl
+  table-by f true o m z = refl
+  table-by f false true m true = refl
+  table-by f false true m false = refl
+  table-by f false false true true = month-is ns reason f
+  table-by f false false true false = refl
+  table-by f false false false z = refl
 
   explanation-by : (w : ℕ) (s z o : Bool)
       → cond s
@@ -123,9 +141,9 @@ pub explained-is : (row : ℕ) → row < 12 → partOf reasons (2 * row) 2 ≡ e
 unfolding reasons explainedAt wrongAt
 explained-is row h = both-in wrong toDo row refl h
 
-pub table-for : (kind : ℕ) (ns : List ℕ) (n : ℕ) → textOf ns (widthOf ns) (tableText kind n) (wrongAt (rowOf kind n)) ≡ tableFor kind ns n
+pub table-for : (kind : ℕ) (ns : List ℕ) (n : ℕ) → Held ns → textOf ns (widthOf ns) (tableText kind n) (wrongAt (rowOf kind n)) ≡ tableFor kind ns n
 unfolding tableFor tableText
-table-for kind ns n = sym (table-by ns (wrongAt (rowOf kind n)) (eqb kind stop) (eqb kind opening) (eqb kind month) (eqb n 0))
+table-for kind ns n f = sym (table-by ns (wrongAt (rowOf kind n)) f (eqb kind stop) (eqb kind opening) (eqb kind month) (eqb n 0))
 
 pub explanation-for : (kind : ℕ) (ns : List ℕ) (n w : ℕ)
     → textOf ns w (explanationText kind n) (explainedAt (rowOf kind n)) ≡ explanationFor kind ns n
@@ -139,7 +157,7 @@ module _ (line : List ℕ) {ns : List ℕ} {kind n text row : ℕ} (ek : kind �
       → Wrote o i (textOf ns w text (partOf reasons (2 * row) 1)) o1 j
       → Wrote o i (tableOf line) o1 j
   unfolding tableOf
-  table-is ew et p = rw (er, en, ek) at (rw (wrong-is row, ew, et, e, table-for kind ns n) at p)
+  table-is ew et p = rw (er, en, ek) at (rw (wrong-is row, ew, et, e, table-for kind ns n (rw en (numbers-held line))) at p)
 
   pub explanation-is : {o o1 : List ℕ} {i j : ℕ} (w : ℕ) → text ≡ explanationText kind n
       → Wrote o i (textOf ns w text (partOf reasons (2 * row) 2)) o1 j

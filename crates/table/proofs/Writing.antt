@@ -8,7 +8,7 @@ use lib.ListN.{length, getD, drop, set, length-append, drop-of-length-le}
 use lib.Seq.{sets, drop-cons}
 use Rattle.printing.specs.Writing.{Wrote}
 use Rattle.printing.proofs.Writing.{then, one}
-use Rattle.table.specs.Table.{columnByte, columnRest, column}
+use Rattle.table.specs.Filling.{columnByte, columnRest, column}
 
 -- Bytes are written one after the other.
 pub bytes-next : (out : List ℕ) {target : List ℕ} (bytes : List ℕ) (j p : ℕ) → p < length bytes → sets out j (drop p bytes) ≡ target

@@ -2,25 +2,42 @@
 use mathlib.Core.Path.{_≡_}
 use mathlib.Core.Bool.{false, cond}
 use mathlib.Core.List.{List, [], _∷_, _++_}
-use Prim.Native.Nat.{ℕ, suc, _+_, _-_, _/_, _%_, _≤_, _<_}
+use Prim.Native.Nat.{ℕ, zero, suc, _+_, _-_, _/_, _%_, _≤_, _<_}
 use lib.Dec.{eqb, ltb}
 use lib.ListN.{getD, take, drop}
 use Rattle.text.specs.Text.{bytesOf}
-use Rattle.printing.specs.Text.{decimal}
+use Rattle.printing.specs.Text.{digitByte, decimal}
 use Rattle.table.specs.Numbers.{numbersAfter, firstOf, opening, month, stop}
 use Rattle.table.specs.Reasons.{wrong, toDo}
-use Rattle.table.specs.Table.{joined, cellAt, widthOf, column}
+use Rattle.table.specs.Table.{joined, amount, total, widthOf}
 use Rattle.table.specs.declared.Shown.{Shown}
 
 -- The next number of a line, or 0 where there is none, and what is left of the line.
 pub record NextNumber (l : List ℕ) (v : ℕ) (rest : List ℕ) : Type 0 where
   pub found : (k : ℕ) → firstOf (suc k) (numbersAfter false 0 l) ≡ v ∷ firstOf k (numbersAfter false 0 rest)
 
+-- The numbers of a table, in its order: of each period the seven amounts (0 to 27), their sums (28 to 34), energy and due.
+unfoldable pub cellAt : List ℕ → ℕ → ℕ
+cellAt ns k = cond (ltb k 28) (amount ns (k / 7) (k % 7)) (cond (ltb k 35) (total ns (k % 7)) (getD ns (k - 4) 0))
+
 -- The width of the columns.
 pub record Width (ns : List ℕ) (w : ℕ) : Type 0 where
   pub is : w ≡ widthOf ns
   pub least : 13 ≤ w
   pub most : w ≤ 28
+
+-- A number at the right end of w bytes, from the right byte by byte. j bytes of it follow them: every fourth byte is a comma, the others
+-- are its digits, and once no digit is left there are blanks.
+abbrev pub columnByte : ℕ → ℕ → ℕ
+columnByte j n =
+    cond (eqb j 0) (digitByte (n % 10)) (cond (eqb n 0) 32 (cond (eqb (j % 4) 3) 44 (digitByte (n % 10))))
+
+abbrev pub columnRest : ℕ → ℕ → ℕ
+columnRest j n = cond (eqb (j % 4) 3) n (n / 10)
+
+unfoldable pub column : ℕ → ℕ → ℕ → List ℕ
+column zero j n = []
+column (suc w) j n = column w (suc j) (columnRest j n) ++ columnByte j n ∷ []
 
 -- The numbers of a note: year, month in two digits, answer.
 unfoldable pub plainValue : List ℕ → ℕ → ℕ

@@ -18,71 +18,84 @@ joined (text ∷ texts) = text ++ joined texts
 abbrev pub monthParts : List ℕ → List (List ℕ)
 monthParts ns = decimal (getD ns 0 0) ∷ bytesOf "-" ∷ decimal (getD ns 1 0 / 10) ∷ decimal (getD ns 1 0 % 10) ∷ []
 
--- The numbers of a table, in its order: of each period the seven amounts (0 to 27), their sums (28 to 34), energy and due. In the line
--- each of the seven has its four periods side by side.
-unfoldable pub cellAt : List ℕ → ℕ → ℕ
-cellAt ns k =
-    let first = 3 + 4 * (k % 7) in
-    cond (ltb k 28) (getD ns (first + k / 7) 0)
-    (cond (ltb k 35) (capped (getD ns first 0 + getD ns (first + 1) 0 + getD ns (first + 2) 0 + getD ns (first + 3) 0)) (getD ns (k - 4) 0))
+-- The k-th of the seven amounts that the headings name, in a period: critical (0), on-peak (1), off-peak (2) or discount (3). In the line
+-- year, month and answer come first, and each of the seven has its four periods side by side.
+abbrev pub amount : List ℕ → ℕ → ℕ → ℕ
+amount ns period k = getD ns (3 + 4 * k + period) 0
 
--- Whether one of the first k is above 999,999,999.
-unfoldable pub anyWide : List ℕ → ℕ → Bool
-anyWide ns zero = false
-anyWide ns (suc k) = ltb 999999999 (cellAt ns k) || anyWide ns k
+-- Its sum over the periods.
+abbrev pub total : List ℕ → ℕ → ℕ
+total ns k = capped (amount ns 0 k + amount ns 1 k + amount ns 2 k + amount ns 3 k)
+
+-- The charge for energy and what is due, in cents.
+abbrev pub energy : List ℕ → ℕ
+energy ns = getD ns 31 0
+
+abbrev pub due : List ℕ → ℕ
+due ns = getD ns 32 0
+
+-- A number for each of the seven.
+abbrev pub seven : (ℕ → ℕ) → List ℕ
+seven number = number 0 ∷ number 1 ∷ number 2 ∷ number 3 ∷ number 4 ∷ number 5 ∷ number 6 ∷ []
+
+-- All numbers of a table.
+unfoldable pub shownNumbers : List ℕ → List ℕ
+shownNumbers ns =
+    seven (amount ns 0) ++ seven (amount ns 1) ++ seven (amount ns 2) ++ seven (amount ns 3) ++ seven (total ns)
+    ++ (energy ns ∷ due ns ∷ [])
+
+-- Whether one of some numbers is above 999,999,999.
+unfoldable pub anyWide : List ℕ → Bool
+anyWide [] = false
+anyWide (n ∷ ns) = ltb 999999999 n || anyWide ns
 
 -- How wide the columns are: the wide ones have room for any number of 64 bits.
 unfoldable pub widthOf : List ℕ → ℕ
-widthOf ns = cond (anyWide ns 37) 28 13
+widthOf ns = cond (anyWide (shownNumbers ns)) 28 13
 
--- A number at the right end of w bytes, with a comma between thousands. j bytes of it follow them: from the right every fourth byte is a
--- comma, the others are its digits, and once no digit is left there are blanks.
-abbrev pub columnByte : ℕ → ℕ → ℕ
-columnByte j n =
-    cond (eqb j 0) (digitByte (n % 10)) (cond (eqb n 0) 32 (cond (eqb (j % 4) 3) 44 (digitByte (n % 10))))
+-- The last k digits of a number, zeros in front of it included.
+abbrev pub lastDigits : ℕ → ℕ → List ℕ
+lastDigits zero n = []
+lastDigits (suc k) n = lastDigits k (n / 10) ++ digitByte (n % 10) ∷ []
 
-abbrev pub columnRest : ℕ → ℕ → ℕ
-columnRest j n = cond (eqb (j % 4) 3) n (n / 10)
+-- A number in decimal with a comma between thousands, where it has at most 3 * k digits.
+unfoldable pub thousands : ℕ → ℕ → List ℕ
+thousands zero n = []
+thousands (suc k) n = cond (ltb n 1000) (decimal n) (thousands k (n / 1000) ++ bytesOf "," ++ lastDigits 3 n)
 
-unfoldable pub column : ℕ → ℕ → ℕ → List ℕ
-column zero j n = []
-column (suc w) j n = column w (suc j) (columnRest j n) ++ columnByte j n ∷ []
-
--- What is left of a number before those bytes.
-unfoldable pub leftOver : ℕ → ℕ → ℕ → ℕ
-leftOver zero j n = n
-leftOver (suc w) j n = leftOver w (suc j) (columnRest j n)
+-- A number of 64 bits has at most 20.
+abbrev pub grouped : ℕ → List ℕ
+grouped n = thousands 7 n
 
 -- A text at the right end of w bytes.
 abbrev pub rightIn : ℕ → List ℕ → List ℕ
 rightIn w text = replicate (w - length text) 32 ++ text
 
--- Seven headings, seven numbers from the k-th on, and cents in dollars.
+-- Seven headings, some numbers, and cents in dollars.
 abbrev pub headings : ℕ → List (List ℕ)
 headings w =
     rightIn w (bytesOf "3 own") ∷ rightIn w (bytesOf "4 out") ∷ rightIn w (bytesOf "5 in") ∷ rightIn w (bytesOf "6 paid")
     ∷ rightIn w (bytesOf "7 forfeited") ∷ rightIn w (bytesOf "8 billed") ∷ rightIn w (bytesOf "9 left") ∷ []
 
-abbrev pub seven : List ℕ → ℕ → ℕ → List (List ℕ)
-seven ns w k =
-    column w 0 (cellAt ns k) ∷ column w 0 (cellAt ns (k + 1)) ∷ column w 0 (cellAt ns (k + 2)) ∷ column w 0 (cellAt ns (k + 3))
-    ∷ column w 0 (cellAt ns (k + 4)) ∷ column w 0 (cellAt ns (k + 5)) ∷ column w 0 (cellAt ns (k + 6)) ∷ []
+abbrev pub inColumns : ℕ → List ℕ → List (List ℕ)
+inColumns w [] = []
+inColumns w (n ∷ ns) = rightIn w (grouped n) ∷ inColumns w ns
 
 abbrev pub dollars : ℕ → ℕ → List (List ℕ)
-dollars w n = column (w - 3) 0 (n / 100) ∷ bytesOf "." ∷ column 1 0 (n / 10) ∷ column 1 0 n ∷ []
+dollars w n = rightIn (w - 3) (grouped (n / 100)) ∷ bytesOf "." ∷ lastDigits 2 n ∷ []
 
 -- The table of a month that was billed, with columns of w bytes.
 unfoldable pub monthTable : List ℕ → ℕ → List ℕ
 monthTable ns w =
     joined
     (monthParts ns ++ (bytesOf " " ∷ headings w)
-    ++ (bytesOf "\ncritical" ∷ seven ns w 0)
-    ++ (bytesOf "\non-peak " ∷ seven ns w 7)
-    ++ (bytesOf "\noff-peak" ∷ seven ns w 14)
-    ++ (bytesOf "\ndiscount" ∷ seven ns w 21)
-    ++ (bytesOf "\nsum     " ∷ seven ns w 28)
-    ++ (bytesOf "\nenergy  " ∷ dollars w (cellAt ns 35))
-    ++ (bytesOf "\ndue     " ∷ dollars w (cellAt ns 36))
+    ++ (bytesOf "\ncritical" ∷ inColumns w (seven (amount ns 0)))
+    ++ (bytesOf "\non-peak " ∷ inColumns w (seven (amount ns 1)))
+    ++ (bytesOf "\noff-peak" ∷ inColumns w (seven (amount ns 2)))
+    ++ (bytesOf "\ndiscount" ∷ inColumns w (seven (amount ns 3)))
+    ++ (bytesOf "\nsum     " ∷ inColumns w (seven (total ns)))
+    ++ (bytesOf "\nenergy  " ∷ dollars w (energy ns))
+    ++ (bytesOf "\ndue     " ∷ dollars w (due ns))
     ++ (bytesOf "\n\n" ∷ []))
 
 -- What is printed for a line of a kind with numbers ns that tells refusal n, and for any line.

@@ -7,9 +7,9 @@ ghost use Rattle.numerals.specs.Numerals.{isDigit};
 ghost use Rattle.printing.specs.Writing.{Wrote, PutIn};
 ghost use Rattle.table.specs.Numbers.{capped, withDigit, numbersOf, kindOf, refusalOf};
 ghost use Rattle.table.specs.Reasons.{rowOf};
-ghost use Rattle.table.specs.Table.{cellAt, columnByte, columnRest, column, tableOf, tableRoom};
+ghost use Rattle.table.specs.Table.{tableOf, tableRoom};
 ghost use Rattle.table.specs.Explaining.{explanationOf};
-ghost use Rattle.table.specs.Filling.{NextNumber, Width, Chosen, shownOf, plainValue, markedBy, filledBy, mostFilled, partOf, reasons, textOf, tableText, explanationText};
+ghost use Rattle.table.specs.Filling.{NextNumber, cellAt, Width, Chosen, columnByte, columnRest, column, shownOf, plainValue, markedBy, filledBy, mostFilled, partOf, reasons, textOf, tableText, explanationText};
 
 // A table or an explanation has at most this many bytes.
 const TABLE_ROOM: usize = 2048;

@@ -1,6 +1,7 @@
 -- `table::cell_of` asks in the order of the definition.
+use native.Mathlib.Nat.{add-zero}
 use borrow.Author.Tests.{lt-ltb, le-ltb}
-use Rattle.table.specs.Table.{cellAt}
+use Rattle.table.specs.Filling.{cellAt}
 use borrow.Author.Needs.{needs}
 use Rattle.table.proofs.cell_of.Statement.{statement}
 use Rattle.table.proofs.cell_of.Tie as tie
@@ -64,7 +65,7 @@ returns-2 : tie.Need-returns-2
 unfolding cellAt
 returns-2 c =
     let tests = c .before .before .before .before .before in
-    simp (le-ltb _ _ (tests .before .if1 .left), lt-ltb _ _ (tests .if2 .taken)) (c .sum-of .ensures)
+    simp (le-ltb _ _ (tests .before .if1 .left), lt-ltb _ _ (tests .if2 .taken), add-zero) (c .sum-of .ensures)
 
 sub-result : tie.Need-sub-result
 sub-result c = search needs

@@ -3,13 +3,12 @@ use mathlib.Core.Path.{_≡_, refl}
 use Prim.Native.Nat.{_≤_}
 use lib.Dec.{lit≤}
 use native.Mathlib.Omega.{arith}
-use Rattle.table.specs.Table.{anyWide}
-use Rattle.table.proofs.Cells.{wide-found, wide-next, wide-none}
+use Rattle.table.proofs.Cells.{wideTo, wide-found, wide-next, wide-none}
 use Rattle.table.proofs.width_of.Statement.{statement}
 use Rattle.table.proofs.width_of.Tie as tie
 
 abbrev Inv-loop : tie.InvT-loop
-Inv-loop numbers left₀ left = (left ≤ 37) × (anyWide numbers 37 ≡ anyWide numbers left)
+Inv-loop numbers left₀ left = (left ≤ 37) × (wideTo numbers 37 ≡ wideTo numbers left)
 
 abbrev μ-loop : tie.MeasureT-loop
 μ-loop numbers left₀ left = left
