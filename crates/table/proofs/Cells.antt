@@ -1,6 +1,6 @@
 -- The numbers of a table, and how wide its columns are.
-use mathlib.Core.Path.{_≡_, refl, _∙_, sym, ap}
-use mathlib.Core.Bool.{Bool, true, false, false≢true, cond, _||_}
+use mathlib.Core.Path.{_≡_, refl, _∙_, sym}
+use mathlib.Core.Bool.{Bool, true, false, false≢true, _||_}
 use mathlib.Core.List.{List, [], _∷_, _++_}
 use Prim.Native.Nat.{ℕ, zero, suc, _-_, _≤_, _<_}
 use native.Mathlib.Numerals.{sub-one}

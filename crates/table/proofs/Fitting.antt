@@ -2,10 +2,10 @@
 -- table does.
 use mathlib.Core.Path.{_≡_, refl, sym, _∙_, ap}
 use mathlib.Core.Bool.{Bool, true, false, cond}
-use mathlib.Core.List.{List, [], _∷_, _++_, append-assoc, append-nil}
+use mathlib.Core.List.{List, [], _∷_, _++_, append-assoc}
 use Prim.Native.Nat.{ℕ, zero, suc, _+_, _-_, _*_, _/_, _%_, _^_, _≤_, _<_}
 use native.Mathlib.Nat.{pow-suc}
-use native.Mathlib.Numerals.{add-one}
+use native.Mathlib.Numerals.{add-one, sub-one}
 use native.Mathlib.Omega.{arith}
 use borrow.Author.Tests.{eq-eqb, ne-eqb, eqb-false, lt-ltb, le-ltb, ltb-true, ltb-false}
 use lib.Dec.{eqb, ltb, lit≤}
@@ -43,37 +43,9 @@ unfolding column
 blanks zero j h = refl
 blanks (suc w) j h = rw (rest-none j, blanks w (suc j) (omega arith), ne-eqb j 0 (λ e. omega arith)) (blank-more w 32)
 
--- A digit is the last byte of a number that is not 0, or of any that nothing follows; and so is a comma.
-module _ (w j n : ℕ) where
-  digit-last : (j % 4 ≡ 3 → ⊥) → (0 < j → 0 < n) → columnByte j n ≡ digitByte (n % 10)
-  digit-last d h = by (eqb j 0) refl
-    where
-      by : (t : Bool) → eqb j 0 ≡ t
-          → cond t (digitByte (n % 10)) (cond (eqb n 0) 32 (cond (eqb (j % 4) 3) 44 (digitByte (n % 10)))) ≡ digitByte (n % 10)
-      by true e = refl
-      by false e =
-          let some = h (let l = eqb-false j 0 e in omega arith) in
-          rw (ne-eqb n 0 (λ z. omega arith), ne-eqb (j % 4) 3 d)
-
-  digit-step : (text : List ℕ) → (j % 4 ≡ 3 → ⊥) → (0 < j → 0 < n) → column w (suc j) (n / 10) ≡ rightIn w text
-      → column (suc w) j n ≡ rightIn (suc w) (text ++ digitByte (n % 10) ∷ [])
-  unfolding column
-  digit-step text d h e = rw (digit-last d h, ne-eqb (j % 4) 3 d, e) (right-more w text (digitByte (n % 10)))
-
-  comma-step : (text : List ℕ) → j % 4 ≡ 3 → 0 < n → column w (suc j) n ≡ rightIn w text
-      → column (suc w) j n ≡ rightIn (suc w) (text ++ 44 ∷ [])
-  unfolding column
-  comma-step text d h e =
-      rw (ne-eqb j 0 (λ z. omega arith), ne-eqb n 0 (λ z. omega arith), eq-eqb (j % 4) 3 d, e) (right-more w text 44)
-
-  -- What is left over then.
-  digit-left : (j % 4 ≡ 3 → ⊥) → leftOver (suc w) j n ≡ leftOver w (suc j) (n / 10)
-  unfolding leftOver
-  digit-left d = rw (ne-eqb (j % 4) 3 d)
-
-  comma-left : j % 4 ≡ 3 → leftOver (suc w) j n ≡ leftOver w (suc j) n
-  unfolding leftOver
-  comma-left d = rw (eq-eqb (j % 4) 3 d)
+-- A number after which j bytes follow has a text, in any column that it fits.
+abbrev Right : ℕ → ℕ → List ℕ → Type 0
+Right j n text = (w : ℕ) → 0 < w → leftOver w j n ≡ 0 → column w j n ≡ rightIn w text
 
 -- A number of which nothing is left has a byte at least.
 has-byte : (w j n : ℕ) → 0 < n → leftOver w j n ≡ 0 → 0 < w
@@ -81,116 +53,105 @@ unfolding leftOver
 has-byte zero j n h e = omega arith
 has-byte (suc w) j n h e = omega arith
 
--- The digits of a number below 1,000, of which m more can come before the next comma.
-one-digit : (w j n : ℕ) → 0 < w → (j % 4 ≡ 3 → ⊥) → (0 < j → 0 < n) → n < 10 → column w j n ≡ rightIn w (digitByte n ∷ [])
-one-digit zero j n l d h s = absurd (omega arith)
-one-digit (suc w) j n l d h s =
-    let none : n / 10 ≡ 0 = omega arith in
-    let all : n % 10 ≡ n = omega arith in
-    let same : w - 0 ≡ w = omega arith in
-    let before : column w (suc j) (n / 10) ≡ rightIn w [] = rw (none, same, append-nil) (blanks w (suc j) (omega arith)) in
-    rw all at (digit-step w j n [] d h before)
-
-few-digits : (m k w j n : ℕ) → 0 < w → j % 4 + m ≤ 2 → m ≤ k → (0 < j → 0 < n) → n < 10 ^ suc m → leftOver w j n ≡ 0
-    → column w j n ≡ rightIn w (digits (suc k) n)
-unfolding digits
-few-digits m k zero j n l d f h s e = absurd (omega arith)
-few-digits zero k (suc w) j n l d f h s e = rw (lt-ltb n 10 s) (one-digit (suc w) j n l (λ c. omega arith) h s)
-few-digits (suc m) zero (suc w) j n l d f h s e = absurd (omega arith)
-few-digits (suc m) (suc k) (suc w) j n l d f h s e =
-    let p : n < 10 ^ suc m * 10 = rw pow-suc at s in
-    let left : leftOver w (suc j) (n / 10) ≡ 0 = sym (digit-left w j n (λ c. omega arith)) ∙ e in
-    by (ltb n 10) refl
-    (λ (o : 10 ≤ n). few-digits m k w (suc j) (n / 10) (has-byte w (suc j) (n / 10) (omega arith) left) (omega arith) (omega arith) (λ i. omega arith) (omega arith) left)
+-- A digit is the last byte of a number that is not 0, and of any that nothing follows.
+digit-last : (j n : ℕ) → (j % 4 ≡ 3 → ⊥) → (0 < j → 0 < n) → columnByte j n ≡ digitByte (n % 10)
+digit-last j n d h = by (eqb j 0) refl
   where
-    by : (t : Bool) → ltb n 10 ≡ t → (10 ≤ n → column w (suc j) (n / 10) ≡ rightIn w (digits (suc k) (n / 10)))
-        → column (suc w) j n ≡ rightIn (suc w) (cond t (digitByte n ∷ []) (digits (suc k) (n / 10) ++ digitByte (n % 10) ∷ []))
-    by true q r = one-digit (suc w) j n l (λ c. omega arith) h (ltb-true n 10 q)
-    by false q r = digit-step w j n (digits (suc k) (n / 10)) (λ c. omega arith) h (r (ltb-false n 10 q))
+    by : (t : Bool) → eqb j 0 ≡ t
+        → cond t (digitByte (n % 10)) (cond (eqb n 0) 32 (cond (eqb (j % 4) 3) 44 (digitByte (n % 10)))) ≡ digitByte (n % 10)
+    by true e = refl
+    by false e = let some = h (let l = eqb-false j 0 e in omega arith) in rw (ne-eqb n 0 (λ z. omega arith), ne-eqb (j % 4) 3 d)
 
--- The place four bytes on.
-abbrev four : ℕ → ℕ
-four j = suc (suc (suc (suc j)))
+-- It is the only one, or others come before it; before a group there is a comma.
+module _ (j n : ℕ) where
+  digit-only : (j % 4 ≡ 3 → ⊥) → (0 < j → 0 < n) → n < 10 → Right j n (digitByte n ∷ [])
+  unfolding column
+  digit-only d h s zero l e = absurd (omega arith)
+  digit-only d h s (suc w) l e =
+      let none : n / 10 ≡ 0 = omega arith in
+      let all : n % 10 ≡ n = omega arith in
+      rw (digit-last j n d h, ne-eqb (j % 4) 3 d, none, all, blanks w (suc j) (omega arith), sub-one)
 
--- Three digits and the comma before them.
-module _ (j n : ℕ) (d : j % 4 ≡ 0) (h : 1000 ≤ n) where
-  group-step : (w : ℕ) (text : List ℕ) → column w (four j) (n / 10 / 10 / 10) ≡ rightIn w text
-      → column (four w) j n ≡ rightIn (four w) (text ++ 44 ∷ lastDigits 3 n)
-  group-step w text e =
-      let t0 = text ++ 44 ∷ [] in
-      let t1 = t0 ++ digitByte (n / 10 / 10 % 10) ∷ [] in
-      let t2 = t1 ++ digitByte (n / 10 % 10) ∷ [] in
-      let comma = comma-step w (suc (suc (suc j))) (n / 10 / 10 / 10) text (omega arith) (omega arith) e in
-      let first = digit-step (suc w) (suc (suc j)) (n / 10 / 10) t0 (λ c. omega arith) (λ i. omega arith) comma in
-      let second = digit-step (suc (suc w)) (suc j) (n / 10) t1 (λ c. omega arith) (λ i. omega arith) first in
-      rw (append-assoc, append-assoc, append-assoc) at (digit-step (suc (suc (suc w))) j n t2 (λ c. omega arith) (λ i. omega arith) second)
+  digit-more : (text : List ℕ) → (j % 4 ≡ 3 → ⊥) → 10 ≤ n → Right (suc j) (n / 10) text → Right j n (text ++ digitByte (n % 10) ∷ [])
+  unfolding column leftOver
+  digit-more text d h f zero l e = absurd (omega arith)
+  digit-more text d h f (suc w) l e =
+      let left = rw (ne-eqb (j % 4) 3 d) at e in
+      let before = f w (has-byte w (suc j) (n / 10) (omega arith) left) left in
+      rw (digit-last j n d (λ i. omega arith), ne-eqb (j % 4) 3 d, before) (right-more w text (digitByte (n % 10)))
 
-  one-left : (w : ℕ) → leftOver (suc w) j n ≡ leftOver w (suc j) (n / 10)
-  one-left w = digit-left w j n (λ c. omega arith)
+  comma-more : (text : List ℕ) → j % 4 ≡ 3 → 0 < n → Right (suc j) n text → Right j n (text ++ 44 ∷ [])
+  unfolding column leftOver
+  comma-more text d h f zero l e = absurd (omega arith)
+  comma-more text d h f (suc w) l e =
+      let left = rw (eq-eqb (j % 4) 3 d) at e in
+      let before = f w (has-byte w (suc j) n h left) left in
+      rw (ne-eqb j 0 (λ z. omega arith), ne-eqb n 0 (λ z. omega arith), eq-eqb (j % 4) 3 d, before) (right-more w text 44)
 
-  two-left : (w : ℕ) → leftOver (suc (suc w)) j n ≡ leftOver w (suc (suc j)) (n / 10 / 10)
-  two-left w = one-left (suc w) ∙ digit-left w (suc j) (n / 10) (λ c. omega arith)
+-- The digits of a number, of which m more can come before the next comma.
+few-digits : (m k j n : ℕ) → j % 4 + m ≤ 2 → m ≤ k → (0 < j → 0 < n) → n < 10 ^ suc m → Right j n (digits (suc k) n)
+unfolding digits
+few-digits zero k j n d f h s = rw (lt-ltb n 10 s) (digit-only j n (λ c. omega arith) h s)
+few-digits (suc m) zero j n d f h s = absurd (omega arith)
+few-digits (suc m) (suc k) j n d f h s =
+    let p : n < 10 ^ suc m * 10 = rw pow-suc at s in
+    by (ltb n 10) refl (λ (o : 10 ≤ n). few-digits m k (suc j) (n / 10) (omega arith) (omega arith) (λ i. omega arith) (omega arith))
+  where
+    by : (t : Bool) → ltb n 10 ≡ t → (10 ≤ n → Right (suc j) (n / 10) (digits (suc k) (n / 10)))
+        → Right j n (cond t (digitByte n ∷ []) (digits (suc k) (n / 10) ++ digitByte (n % 10) ∷ []))
+    by true q r = digit-only j n (λ c. omega arith) h (ltb-true n 10 q)
+    by false q r = let o = ltb-false n 10 q in digit-more j n (digits (suc k) (n / 10)) (λ c. omega arith) o (r o)
 
-  three-left : (w : ℕ) → leftOver (suc (suc (suc w))) j n ≡ leftOver w (suc (suc (suc j))) (n / 10 / 10 / 10)
-  three-left w = two-left (suc w) ∙ digit-left w (suc (suc j)) (n / 10 / 10) (λ c. omega arith)
+-- Three digits, with a comma before them.
+group-more : (j n : ℕ) (text : List ℕ) → j % 4 ≡ 0 → 1000 ≤ n → Right (suc (suc (suc (suc j)))) (n / 1000) text
+    → Right j n (text ++ 44 ∷ lastDigits 3 n)
+group-more j n text d h f =
+    let rest : n / 1000 ≡ n / 10 / 10 / 10 = omega arith in
+    let t0 = text ++ 44 ∷ [] in
+    let t1 = t0 ++ digitByte (n / 10 / 10 % 10) ∷ [] in
+    let t2 = t1 ++ digitByte (n / 10 % 10) ∷ [] in
+    let same : t2 ++ digitByte (n % 10) ∷ [] ≡ text ++ 44 ∷ lastDigits 3 n = rw (append-assoc, append-assoc, append-assoc) in
+    let comma = comma-more (suc (suc (suc j))) (n / 10 / 10 / 10) text (omega arith) (omega arith) (rw rest at f) in
+    let third = digit-more (suc (suc j)) (n / 10 / 10) t0 (λ c. omega arith) (omega arith) comma in
+    let second = digit-more (suc j) (n / 10) t1 (λ c. omega arith) (omega arith) third in
+    rw same at (digit-more j n t2 (λ c. omega arith) (omega arith) second)
 
-  group-more : (w : ℕ) (text : List ℕ) → leftOver w j n ≡ 0
-      → ((v : ℕ) → 0 < v → leftOver v (four j) (n / 1000) ≡ 0 → column v (four j) (n / 1000) ≡ rightIn v text)
-      → column w j n ≡ rightIn w (text ++ 44 ∷ lastDigits 3 n)
-  unfolding leftOver
-  group-more zero text e f = absurd (omega arith)
-  group-more (suc zero) text e f = absurd (omega (arith, sym (one-left 0) ∙ e))
-  group-more (suc (suc zero)) text e f = absurd (omega (arith, sym (two-left 0) ∙ e))
-  group-more (suc (suc (suc zero))) text e f = absurd (omega (arith, sym (three-left 0) ∙ e))
-  group-more (suc (suc (suc (suc w)))) text e f =
-      let same : n / 10 / 10 / 10 ≡ n / 1000 = omega arith in
-      let left = sym (three-left (suc w) ∙ comma-left w (suc (suc (suc j))) (n / 10 / 10 / 10) (omega arith)) ∙ e in
-      let room = has-byte w (four j) (n / 10 / 10 / 10) (omega arith) left in
-      group-step w text (rw same (f w room (rw same at left)))
-
--- The last group of a number, or one before which others come.
-last-group : (k n : ℕ) → n < 1000 → thousands (suc k) n ≡ decimal n
+-- The first group of a number, or one before which others come.
+first-group : (k n : ℕ) → n < 1000 → thousands (suc k) n ≡ decimal n
 unfolding thousands
-last-group k n h = rw (lt-ltb n 1000 h)
+first-group k n h = rw (lt-ltb n 1000 h)
 
 next-group : (k n : ℕ) → 1000 ≤ n → thousands (suc k) n ≡ thousands k (n / 1000) ++ 44 ∷ lastDigits 3 n
 unfolding thousands
 next-group k n h = rw (le-ltb n 1000 h, append-assoc)
 
-groups : (k w j n : ℕ) → 0 < w → j % 4 ≡ 0 → (0 < j → 0 < n) → n < 1000 ^ suc k → leftOver w j n ≡ 0
-    → column w j n ≡ rightIn w (thousands (suc k) n)
-groups zero w j n l d h s e = rw (last-group zero n s) (few-digits 2 19 w j n l (omega arith) (lit≤ tt) h s e)
-groups (suc k) w j n l d h s e =
+groups : (k j n : ℕ) → j % 4 ≡ 0 → (0 < j → 0 < n) → n < 1000 ^ suc k → Right j n (thousands (suc k) n)
+groups zero j n d h s = rw (first-group zero n s) (few-digits 2 19 j n (omega arith) (lit≤ tt) h s)
+groups (suc k) j n d h s =
     let p : n < 1000 ^ suc k * 1000 = rw pow-suc at s in
-    by (ltb n 1000) refl (λ (o : 1000 ≤ n) v r f. groups k v (four j) (n / 1000) r (omega arith) (λ i. omega arith) (omega arith) f)
+    by (ltb n 1000) refl (λ (o : 1000 ≤ n). groups k (suc (suc (suc (suc j)))) (n / 1000) (omega arith) (λ i. omega arith) (omega arith))
   where
-    by : (t : Bool) → ltb n 1000 ≡ t
-        → (1000 ≤ n → (v : ℕ) → 0 < v → leftOver v (four j) (n / 1000) ≡ 0
-        → column v (four j) (n / 1000) ≡ rightIn v (thousands (suc k) (n / 1000)))
-        → column w j n ≡ rightIn w (thousands (suc (suc k)) n)
-    by true q r =
-        let s = ltb-true n 1000 q in
-        rw (last-group (suc k) n s) (few-digits 2 19 w j n l (omega arith) (lit≤ tt) h s e)
-    by false q r =
-        let o = ltb-false n 1000 q in
-        rw (next-group (suc k) n o) (group-more j n d o w (thousands (suc k) (n / 1000)) e (r o))
+    by : (t : Bool) → ltb n 1000 ≡ t → (1000 ≤ n → Right (suc (suc (suc (suc j)))) (n / 1000) (thousands (suc k) (n / 1000)))
+        → Right j n (thousands (suc (suc k)) n)
+    by true q r = let s = ltb-true n 1000 q in rw (first-group (suc k) n s) (few-digits 2 19 j n (omega arith) (lit≤ tt) h s)
+    by false q r = let o = ltb-false n 1000 q in rw (next-group (suc k) n o) (group-more j n (thousands (suc k) (n / 1000)) d o (r o))
 
-column-is : (w n : ℕ) → 0 < w → n ≤ 18446744073709551615 → leftOver w 0 n ≡ 0 → column w 0 n ≡ rightIn w (grouped n)
-column-is w n l h e = groups 6 w 0 n l (omega arith) (λ i. omega arith) (omega arith) e
+grouped-right : (n : ℕ) → n ≤ 18446744073709551615 → Right 0 n (grouped n)
+grouped-right n h = groups 6 0 n (omega arith) (λ i. omega arith) (omega arith)
 
 -- Nine digits fit a narrow column, and all of a number of 64 bits a wide one; dollars have three bytes less.
 abbrev pub Stands : ℕ → ℕ → Type 0
 Stands w n = (column w 0 n ≡ rightIn w (grouped n)) × (column (w - 3) 0 (n / 100) ≡ rightIn (w - 3) (grouped (n / 100)))
 
-narrow-stands : (n : ℕ) → n ≤ 999999999 → Stands 13 n
-unfolding leftOver
-narrow-stands n h =
-    (column-is 13 n (lit≤ tt) (omega arith) (omega arith), column-is 10 (n / 100) (lit≤ tt) (omega arith) (omega arith))
+narrow-stands : (ns : List ℕ) (n : ℕ) → anyWide (shownNumbers ns) ≡ false → n ≤ 999999999 → Stands (widthOf ns) n
+unfolding widthOf leftOver
+narrow-stands ns n e h =
+    rw e (grouped-right n (omega arith) _ (lit≤ tt) (omega arith), grouped-right (n / 100) (omega arith) _ (lit≤ tt) (omega arith))
 
-wide-stands : (n : ℕ) → n ≤ 18446744073709551615 → Stands 28 n
-unfolding leftOver
-wide-stands n h =
-    (column-is 28 n (lit≤ tt) h (omega arith), column-is 25 (n / 100) (lit≤ tt) (omega arith) (omega arith))
+wide-stands : (ns : List ℕ) (n : ℕ) → anyWide (shownNumbers ns) ≡ true → n ≤ 18446744073709551615 → Stands (widthOf ns) n
+unfolding widthOf leftOver
+wide-stands ns n e h =
+    rw e (grouped-right n h _ (lit≤ tt) (omega arith), grouped-right (n / 100) (omega arith) _ (lit≤ tt) (omega arith))
 
 -- So every number of a table stands in its column.
 cell-held : (ns : List ℕ) → Held ns → (k : ℕ) → cellAt ns k ≤ 18446744073709551615
@@ -203,9 +164,8 @@ cell-held ns f k = by (ltb k 28) (ltb k 35)
     by false false = f _
 
 pub cells-stand : (ns : List ℕ) → Held ns → (k : ℕ) → k < 37 → Stands (widthOf ns) (cellAt ns k)
-unfolding widthOf
 cells-stand ns f k h = by (anyWide (shownNumbers ns)) refl
   where
-    by : (t : Bool) → anyWide (shownNumbers ns) ≡ t → Stands (cond t 28 13) (cellAt ns k)
-    by true e = wide-stands (cellAt ns k) (cell-held ns f k)
-    by false e = narrow-stands (cellAt ns k) (each-narrow ns 37 k h (ap anyWide (sym (cells-are ns)) ∙ e))
+    by : (t : Bool) → anyWide (shownNumbers ns) ≡ t → Stands (widthOf ns) (cellAt ns k)
+    by true e = wide-stands ns (cellAt ns k) e (cell-held ns f k)
+    by false e = narrow-stands ns (cellAt ns k) e (each-narrow ns 37 k h (ap anyWide (sym (cells-are ns)) ∙ e))
