@@ -16,13 +16,14 @@ use Rattle.billing.specs.declared.Bill.{Bill}
 use Rattle.registers.specs.declared.Tally.{Tally}
 use lib.Dec.{eqb, ltb}
 use Rattle.calendar.specs.Calendar.{lastMonth}
+use Rattle.refusals.specs.declared.Faults.{Faults}
 use Rattle.refusals.specs.Table.{row, firstOf, billingRow}
 use Rattle.account.specs.declared.BillingReply.{BillingReply}
 use Rattle.billing.proofs.Limits.{billable-true, at-most}
 use Rattle.account.specs.declared.Account.{Account}
 use Rattle.account.specs.Refusals.{isFresh, unusable, billingNumber}
 use Rattle.account.specs.Account.{scheduleOf, billOf, billingReply}
-use Rattle.account.specs.Tallies.{replyFrom}
+use Rattle.account.specs.Tallies.{faultsFrom, replyFrom}
 use Rattle.account.proofs.Accepted.{BillingAccepted, billing-accepted}
 
 -- The hours that an account is billed by.
@@ -30,21 +31,21 @@ pub schedule-is : (a : Account) → scheduleOf a ≡ fixedSchedule
 unfolding scheduleOf
 schedule-is a = refl
 
+-- Nothing is wrong.
+abbrev noFaults : Faults
+noFaults = record { wronglength = false; wrongdays = false; abovelimit = false }
+
 module _ (a : Account) (m : ℕ) (delivered received : List ℕ) (x : ℕ) where
   pub number-is :
       billingRow (isFresh (a .stage)) (unusable a) (a .next) m
-      (tallyOf (scheduleOf a) m x delivered .wronglength || tallyOf (scheduleOf a) m x received .wronglength)
-      (criticalRefused m x)
-      (tallyOf (scheduleOf a) m x delivered .abovelimit || tallyOf (scheduleOf a) m x received .abovelimit)
+      (faultsFrom (tallyOf (scheduleOf a) m x delivered) (tallyOf (scheduleOf a) m x received) (criticalRefused m x))
       ≡ billingNumber a m delivered received x
   unfolding billingRow billingNumber
   number-is = by (lengthRefused m delivered) (lengthRefused m received) refl refl
     where
       by : (b c : Bool) → lengthRefused m delivered ≡ b → lengthRefused m received ≡ c
           → billingRow (isFresh (a .stage)) (unusable a) (a .next) m
-          (tallyOf (scheduleOf a) m x delivered .wronglength || tallyOf (scheduleOf a) m x received .wronglength)
-          (criticalRefused m x)
-          (tallyOf (scheduleOf a) m x delivered .abovelimit || tallyOf (scheduleOf a) m x received .abovelimit)
+          (faultsFrom (tallyOf (scheduleOf a) m x delivered) (tallyOf (scheduleOf a) m x received) (criticalRefused m x))
           ≡ billingNumber a m delivered received x
       by true c e f = rw (tally-length (scheduleOf a) m x delivered, tally-length (scheduleOf a) m x received, e)
       by false true e f = rw (tally-length (scheduleOf a) m x delivered, tally-length (scheduleOf a) m x received, e, f)
@@ -81,19 +82,19 @@ module _ (a : Account) (m : ℕ) (delivered received : List ℕ) (x : ℕ) where
       )
 
   -- The number and the answer, from the values that the calls before them gave.
-  pub number-found : (s : List ℕ) (t g : Tally) (fresh bad wronglength wrongdays abovelimit : Bool) (n : ℕ)
+  pub number-found : (s : List ℕ) (t g : Tally) (fresh bad wrongdays : Bool) (faults : Faults) (n : ℕ)
       → fresh ≡ isFresh (a .stage) → bad ≡ unusable a
       → s ≡ scheduleOf a → t ≡ tallyOf s m x delivered → g ≡ tallyOf s m x received
-      → wronglength ≡ (t .wronglength || g .wronglength) → wrongdays ≡ criticalRefused m x → abovelimit ≡ (t .abovelimit || g .abovelimit)
-      → n ≡ billingRow fresh bad (a .next) m wronglength wrongdays abovelimit → n ≡ billingNumber a m delivered received x
-  number-found s t g fresh bad wronglength wrongdays abovelimit n f u i j k o p q e = rw (e, f, u, o, p, q, j, k, i) number-is
+      → wrongdays ≡ criticalRefused m x → faults ≡ faultsFrom t g wrongdays
+      → n ≡ billingRow fresh bad (a .next) m faults → n ≡ billingNumber a m delivered received x
+  number-found s t g fresh bad wrongdays faults n f u i j k o p e = rw (e, f, u, p, o, j, k, i) number-is
 
   -- Rows 1, 3, 11 and 7 need no reading.
   pub early-number : (fresh bad : Bool) (n : ℕ) → fresh ≡ isFresh (a .stage) → bad ≡ unusable a
-      → n ≡ billingRow fresh bad (a .next) m false false false → (n ≡ 0 → ⊥) → n ≡ billingNumber a m delivered received x
+      → n ≡ billingRow fresh bad (a .next) m noFaults → (n ≡ 0 → ⊥) → n ≡ billingNumber a m delivered received x
   unfolding billingRow billingNumber
   early-number fresh bad n f u e z =
-      let k : n ≡ billingRow (isFresh (a .stage)) (unusable a) (a .next) m false false false = e ∙ rw (f, u) in
+      let k : n ≡ billingRow (isFresh (a .stage)) (unusable a) (a .next) m noFaults = e ∙ rw (f, u) in
       k ∙ by (isFresh (a .stage)) (unusable a) (ltb lastMonth (a .next)) (not (eqb m (a .next))) (λ q. z (k ∙ q))
     where
       by : (p q b c : Bool) → (firstOf (row 1 p ∷ row 3 q ∷ row 11 b ∷ row 7 c ∷ row 8 false ∷ row 9 false ∷ row 10 false ∷ []) ≡ 0 → ⊥)

@@ -62,9 +62,11 @@ repricingNumber a l = repricingRow (isFresh (a .stage)) (unusable a) l
 unfoldable pub billingNumber : Account → ℕ → List ℕ → List ℕ → ℕ → ℕ
 billingNumber a m delivered received x =
     billingRow (isFresh (a .stage)) (unusable a) (a .next) m
-    (lengthRefused m delivered || lengthRefused m received)
-    (criticalRefused m x)
-    (readingRefused delivered || readingRefused received)
+    (record {
+      wronglength = lengthRefused m delivered || lengthRefused m received;
+      wrongdays = criticalRefused m x;
+      abovelimit = readingRefused delivered || readingRefused received;
+    })
 
 unfoldable pub closingNumber : Account → ℕ
 closingNumber a = closingRow (isFresh (a .stage)) (unusable a)

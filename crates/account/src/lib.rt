@@ -7,9 +7,10 @@ ghost use Rattle.calendar.specs.Calendar.{lastMonth};
 ghost use Rattle.account.specs.Refusals.{isFresh, isOpen, isClosed};
 ghost use Rattle.account.specs.Refusals.{cantArise, unusable};
 ghost use Rattle.account.specs.Account.{freshAccount, afterBill, openingReply, repricingReply, billingReply, closingReply};
-ghost use Rattle.account.specs.Tallies.{replyFrom};
+ghost use Rattle.account.specs.Tallies.{faultsFrom, replyFrom};
 use billing::Bill;
 use hours::ByPeriod;
+use refusals::Faults;
 use registers::Tally;
 use tariff::Class;
 use tariff::PriceList;
@@ -133,6 +134,19 @@ fn either(a: bool, b: bool) -> bool
     b
 }
 
+// What is wrong with a billing, from the tallies of its registers and whether its critical days are refused.
+fn faults_of(delivered: Tally, received: Tally, wrongdays: bool) -> Faults
+    ensures { λ r. ⌜ r ≡ faultsFrom delivered received wrongdays ⌝ }
+{
+    let wronglength = either(delivered.wronglength, received.wronglength);
+    let abovelimit = either(delivered.abovelimit, received.abovelimit);
+    Faults {
+        wronglength,
+        wrongdays,
+        abovelimit,
+    }
+}
+
 // The account after an accepted bill.
 fn after_bill(account: Account, bill: Bill) -> Account
     requires { ⌜ account .next ≤ lastMonth ⌝ }
@@ -197,19 +211,9 @@ fn bill_readings(
     let schedule = hours::fixed_schedule();
     let taken = registers::tally_of(&schedule, delivered, month, critical_days);
     let given = registers::tally_of(&schedule, received, month, critical_days);
-    let wronglength = either(taken.wronglength, given.wronglength);
     let wrongdays = hours::critical_refused(month, critical_days);
-    let abovelimit = either(taken.abovelimit, given.abovelimit);
-    let next = account.next;
-    let number = refusals::billing_row(
-        fresh,
-        unusable,
-        next,
-        month,
-        wronglength,
-        wrongdays,
-        abovelimit,
-    );
+    let faults = faults_of(taken, given, wrongdays);
+    let number = refusals::billing_row(fresh, unusable, account.next, month, faults);
     if number != 0 {
         return BillingReply {
             number,
@@ -332,8 +336,12 @@ impl Account {
         let stage = self.stage;
         let fresh = is_fresh(stage);
         let unusable = is_unusable(self);
-        let next = self.next;
-        let early = refusals::billing_row(fresh, unusable, next, month, false, false, false);
+        let none = Faults {
+            wronglength: false,
+            wrongdays: false,
+            abovelimit: false,
+        };
+        let early = refusals::billing_row(fresh, unusable, self.next, month, none);
         if early != 0 {
             return BillingReply {
                 number: early,

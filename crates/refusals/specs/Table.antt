@@ -1,6 +1,5 @@
 -- Document 01, "When the office declines": the rows of each call, in the order in which they are asked. fresh, opened and unusable say
--- what the account is, and next is its next month; t are terms, l is a price list, m a month; wronglength, wrongdays and abovelimit say whether
--- rows 8, 9 and 10 apply. The words of the rows: 1 not open, 2 open already, 3 closed, 4 price list, 5 capacity, 6 no bridge, 7 month, 8 register
+-- what the account is, and next is its next month; t are terms, l is a price list, m a month; f says which of rows 8, 9 and 10 apply. The words of the rows: 1 not open, 2 open already, 3 closed, 4 price list, 5 capacity, 6 no bridge, 7 month, 8 register
 -- length, 9 critical days, 10 reading, 11 book full.
 use mathlib.Core.Bool.{Bool, false, cond, not, _||_}
 use mathlib.Core.List.{List, [], _∷_, _++_}
@@ -10,6 +9,7 @@ use Rattle.calendar.specs.Calendar.{lastMonth}
 use Rattle.tariff.specs.declared.Terms.{Terms}
 use Rattle.tariff.specs.declared.PriceList.{PriceList}
 use Rattle.tariff.specs.Tariff.{pricesRefused, capacityRefused, bridgeRefused}
+use Rattle.refusals.specs.declared.Faults.{Faults}
 
 -- A row of the table: whether it applies, and its number.
 pub record Row : Type 0 where
@@ -44,16 +44,16 @@ unfoldable pub repricingRow : Bool → Bool → PriceList → ℕ
 repricingRow fresh unusable l = firstOf (row 1 fresh ∷ row 3 unusable ∷ row 4 (pricesRefused l) ∷ [])
 
 -- Billing: rows 1, 3, 11 ("billing when December 2099 has been billed"), 7 ("billing a month other than the next"), 8, 9, 10.
-unfoldable pub billingRow : Bool → Bool → ℕ → ℕ → Bool → Bool → Bool → ℕ
-billingRow fresh unusable next m wronglength wrongdays abovelimit =
+unfoldable pub billingRow : Bool → Bool → ℕ → ℕ → Faults → ℕ
+billingRow fresh unusable next m f =
     firstOf
     (row 1 fresh
     ∷ row 3 unusable
     ∷ row 11 (ltb lastMonth next)
     ∷ row 7 (not (eqb m next))
-    ∷ row 8 wronglength
-    ∷ row 9 wrongdays
-    ∷ row 10 abovelimit
+    ∷ row 8 (f .wronglength)
+    ∷ row 9 (f .wrongdays)
+    ∷ row 10 (f .abovelimit)
     ∷ [])
 
 -- Closing: rows 1, 3.

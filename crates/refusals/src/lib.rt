@@ -4,6 +4,13 @@ ghost use Rattle.refusals.specs.Table.{firstOf, contentsRows, openingRow
 use tariff::PriceList;
 use tariff::Terms;
 
+// What is wrong with the registers and the critical days of a billing: whether rows 8, 9 and 10 apply.
+pub struct Faults {
+    pub wronglength: bool,
+    pub wrongdays: bool,
+    pub abovelimit: bool,
+}
+
 // What an account holds: the rows of an opening between 3 and 7.
 pub fn contents_row(terms: Terms, prices: PriceList) -> u32
     ensures { λ r. ⌜ r ≡ firstOf (contentsRows terms prices) ⌝ }
@@ -55,17 +62,9 @@ pub fn repricing_row(fresh: bool, unusable: bool, prices: PriceList) -> u32
     if tariff::prices_refused(prices) { 4 } else { 0 }
 }
 
-// Billing, from what its registers and critical days were found to be.
-pub fn billing_row(
-    fresh: bool,
-    unusable: bool,
-    next: u32,
-    month: u32,
-    wronglength: bool,
-    wrongdays: bool,
-    abovelimit: bool,
-) -> u32
-    ensures { λ r. ⌜ r ≡ billingRow fresh unusable next month wronglength wrongdays abovelimit ⌝ }
+// Billing, from what was found to be wrong with it.
+pub fn billing_row(fresh: bool, unusable: bool, next: u32, month: u32, faults: Faults) -> u32
+    ensures { λ r. ⌜ r ≡ billingRow fresh unusable next month faults ⌝ }
 {
     let number = closing_row(fresh, unusable);
     if number != 0 {
@@ -77,11 +76,11 @@ pub fn billing_row(
     if month != next {
         return 7;
     }
-    if wronglength {
+    if faults.wronglength {
         return 8;
     }
-    if wrongdays {
+    if faults.wrongdays {
         return 9;
     }
-    if abovelimit { 10 } else { 0 }
+    if faults.abovelimit { 10 } else { 0 }
 }

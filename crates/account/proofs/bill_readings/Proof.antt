@@ -11,22 +11,21 @@ use Rattle.account.proofs.bill_readings.Tie as tie
 found : (c : tie.After-billing-row) →
     c .billing-row .result
     ≡ billingNumber
-    (c .before .before .before .before .before .before .before .before .before .before .before .before .before .args .account)
-    (c .before .before .before .before .before .before .before .before .before .before .before .before .before .args .month)
-    (c .before .before .before .before .before .before .before .before .before .before .before .before .before .args .delivered .now)
-    (c .before .before .before .before .before .before .before .before .before .before .before .before .before .args .received .now)
-    (c .before .before .before .before .before .before .before .before .before .before .before .before .before .args .critical-days)
+    (c .before .before .before .before .before .before .before .before .before .before .before .before .args .account)
+    (c .before .before .before .before .before .before .before .before .before .before .before .before .args .month)
+    (c .before .before .before .before .before .before .before .before .before .before .before .before .args .delivered .now)
+    (c .before .before .before .before .before .before .before .before .before .before .before .before .args .received .now)
+    (c .before .before .before .before .before .before .before .before .before .before .before .before .args .critical-days)
 found c =
     number-found
-    _ _ _ _ _ _ _ _ _ _ _ _ _ _
-    (c .before .before .before .before .before .before .before .before .before .before .is-fresh .ensures)
-    (c .before .before .before .before .before .before .before .before .before .is-unusable .ensures)
-    (c .before .before .before .before .before .before .before .before .fixed-schedule .ensures ∙ sym (schedule-is _))
-    (c .before .before .before .before .before .before .tally-of .ensures .0)
-    (c .before .before .before .before .tally-of2 .ensures .0)
-    (c .before .before .before .either .ensures)
+    _ _ _ _ _ _ _ _ _ _ _ _ _
+    (c .before .before .before .before .before .before .before .before .before .is-fresh .ensures)
+    (c .before .before .before .before .before .before .before .before .is-unusable .ensures)
+    (c .before .before .before .before .before .before .before .fixed-schedule .ensures ∙ sym (schedule-is _))
+    (c .before .before .before .before .before .tally-of .ensures .0)
+    (c .before .before .before .tally-of2 .ensures .0)
     (c .before .before .critical-refused .ensures)
-    (c .before .either2 .ensures)
+    (c .before .faults-of .ensures)
     (c .billing-row .ensures)
 
 is-fresh-requires : tie.Need-is-fresh-requires
@@ -44,14 +43,11 @@ tally-of-requires c κs = search needs
 tally-of-requires-2 : tie.Need-tally-of-requires-2
 tally-of-requires-2 c κs = search needs
 
-either-requires : tie.Need-either-requires
-either-requires c κs = search needs
-
 critical-refused-requires : tie.Need-critical-refused-requires
 critical-refused-requires c κs = search needs
 
-either-requires-2 : tie.Need-either-requires-2
-either-requires-2 c κs = search needs
+faults-of-requires : tie.Need-faults-of-requires
+faults-of-requires c κs = search needs
 
 billing-row-requires : tie.Need-billing-row-requires
 billing-row-requires c κs = search needs
@@ -70,9 +66,9 @@ returns-2 c =
     c .billed .ensures
     ∙ accepted-reply
     _ _ _ _ _ _ _ _ _
-    (c .before .before .before .before .before .before .before .before .before .before .fixed-schedule .ensures ∙ sym (schedule-is _))
-    (c .before .before .before .before .before .before .before .before .tally-of .ensures .0)
-    (c .before .before .before .before .before .before .tally-of2 .ensures .0)
+    (c .before .before .before .before .before .before .before .before .before .fixed-schedule .ensures ∙ sym (schedule-is _))
+    (c .before .before .before .before .before .before .before .tally-of .ensures .0)
+    (c .before .before .before .before .before .tally-of2 .ensures .0)
     (found (c .before .before))
     (c .before .if1 .left)
 
@@ -85,9 +81,8 @@ bill-readings-spec =
     fixed-schedule-requires
     tally-of-requires
     tally-of-requires-2
-    either-requires
     critical-refused-requires
-    either-requires-2
+    faults-of-requires
     billing-row-requires
     no-bill-requires
     returns
