@@ -9,7 +9,7 @@ use lib.Dec.{eqb, leb, lit≤}
 use lib.ListN.{length, getD, length-append}
 use Rattle.printing.specs.Writing.{fits, PutIn}
 use Rattle.table.specs.Numbers.{numbersOf, kindOf, refusalOf}
-use Rattle.table.specs.Reasons.{rowOf, wrongAt, explainedAt}
+use Rattle.table.specs.Reasons.{rowCount, rowOf, wrongAt, explainedAt}
 use Rattle.table.specs.Table.{shownNumbers, anyWide, widthOf, tableOf, tableRoom}
 use Rattle.table.specs.Explaining.{explanationOf}
 use Rattle.table.specs.Filling.{markedBy, filledBy, mostFilled, templates, firstMarks, partOf, textOf, tableText, explanationText}
@@ -48,7 +48,7 @@ width-most false = lit≤ tt
 wrong-short : (row : ℕ) → length (wrongAt row) ≤ 160
 wrong-short row = rw (← wrong-is row) (omega (arith, reason-most (2 * row) 1))
 
-explained-short : (row : ℕ) → row < 12 → length (explainedAt row) ≤ 160
+explained-short : (row : ℕ) → row < rowCount → length (explainedAt row) ≤ 160
 explained-short row h = rw (← explained-is row h) (omega (arith, reason-most (2 * row) 2))
 
 pub table-short : (l : List ℕ) → length (tableOf l) ≤ 2048

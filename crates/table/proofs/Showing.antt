@@ -10,7 +10,7 @@ use Rattle.text.specs.Text.{bytesOf}
 use Rattle.printing.specs.Text.{digitByte, decimal}
 use Rattle.printing.specs.Writing.{Wrote}
 use Rattle.table.specs.Numbers.{opening, month, stop, numbersOf, kindOf, refusalOf}
-use Rattle.table.specs.Reasons.{wrong, toDo, rowOf, wrongAt, explainedAt}
+use Rattle.table.specs.Reasons.{wrong, toDo, rowCount, rowOf, wrongAt, explainedAt}
 use Rattle.table.specs.Table.{joined, monthParts, energy, due, grouped, rightIn, shownNumbers, anyWide, widthOf, monthTable, tableFor, tableOf}
 use Rattle.table.specs.Explaining.{explanationFor, explanationOf}
 use Rattle.table.specs.Filling.{cellAt, column, plainValue, shownOf, markedBy, filledBy, templates, inTurn, reasons, partOf, textOf, tableText, explanationText}
@@ -137,7 +137,7 @@ pub wrong-is : (row : ℕ) → partOf reasons (2 * row) 1 ≡ wrongAt row
 unfolding reasons wrongAt
 wrong-is row = part-one reasons (2 * row) ∙ wrong-in wrong toDo row refl
 
-pub explained-is : (row : ℕ) → row < 12 → partOf reasons (2 * row) 2 ≡ explainedAt row
+pub explained-is : (row : ℕ) → row < rowCount → partOf reasons (2 * row) 2 ≡ explainedAt row
 unfolding reasons explainedAt wrongAt
 explained-is row h = both-in wrong toDo row refl h
 

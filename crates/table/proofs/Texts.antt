@@ -10,6 +10,7 @@ use lib.ListN.{length, getD, take, drop, length-append, take-append-drop}
 use lib.Seq.{take-add, drop-drop, take-at, drop-at}
 use Rattle.calendar.proofs.Booleans.{and-both}
 use Rattle.printing.specs.Writing.{Wrote}
+use Rattle.table.specs.Reasons.{rowCount}
 use Rattle.table.specs.Table.{joined}
 use Rattle.table.specs.Filling.{markedBy, filledBy, mostFilled, templates, firstMarks, reasons, partOf, textOf, Chosen}
 
@@ -108,7 +109,7 @@ text-place : (k : ℕ) → k ≤ 9 → getD textBegins k 0 ≡ placeAt templates
 unfolding templates
 text-place k h = place-first templates k h
 
-reason-place : (k : ℕ) → k ≤ 24 → getD reasonBegins k 0 ≡ placeAt reasons k
+reason-place : (k : ℕ) → k ≤ 2 * rowCount → getD reasonBegins k 0 ≡ placeAt reasons k
 unfolding reasons
 reason-place k h = place-first reasons k h
 

@@ -8,7 +8,7 @@ use lib.ListN.{getD, take, drop}
 use Rattle.text.specs.Text.{bytesOf}
 use Rattle.printing.specs.Text.{digitByte, decimal}
 use Rattle.table.specs.Numbers.{numbersAfter, firstOf, opening, month, stop}
-use Rattle.table.specs.Reasons.{wrong, toDo}
+use Rattle.table.specs.Reasons.{wrong, toDo, rowCount}
 use Rattle.table.specs.Table.{joined, amount, total, widthOf}
 use Rattle.table.specs.declared.Shown.{Shown}
 
@@ -109,7 +109,7 @@ pub record Chosen (texts rows : List ℕ) (text row parts : ℕ) : Type 0 where
   pub fromTexts : texts ≡ joined templates
   pub fromReasons : rows ≡ joined reasons
   pub ofTexts : text < 9
-  pub ofRows : row < 12
+  pub ofRows : row < rowCount
   pub most : parts ≤ 2
 
 -- A template filled in with a reason.

@@ -41,15 +41,25 @@ toDo =
     ∷ bytesOf "correct the line and run the file again"
     ∷ []
 
+-- The row for any other number, the one for a stop, and how many there are.
+abbrev pub otherRow : ℕ
+otherRow = 10
+
+abbrev pub stopRow : ℕ
+stopRow = 11
+
+abbrev pub rowCount : ℕ
+rowCount = 12
+
 -- The rows of an opening's numbers 4 to 7, of a month's 1 and 7 to 11, and of a stop.
 unfoldable pub openingRow : ℕ → ℕ
-openingRow n = cond (leb 4 n && leb n 7) (n - 3) 10
+openingRow n = cond (leb 4 n && leb n 7) (n - 3) otherRow
 
 unfoldable pub monthRow : ℕ → ℕ
-monthRow n = cond (eqb n 1) 0 (cond (leb 7 n && leb n 11) (n - 2) 10)
+monthRow n = cond (eqb n 1) 0 (cond (leb 7 n && leb n 11) (n - 2) otherRow)
 
 unfoldable pub rowOf : ℕ → ℕ → ℕ
-rowOf kind n = cond (eqb kind stop) 11 (cond (eqb kind opening) (openingRow n) (monthRow n))
+rowOf kind n = cond (eqb kind stop) stopRow (cond (eqb kind opening) (openingRow n) (monthRow n))
 
 unfoldable pub wrongAt : ℕ → List ℕ
 wrongAt row = getD wrong row []

@@ -6,7 +6,7 @@ ghost use lib.ListN.{length, drop, take};
 ghost use Rattle.numerals.specs.Numerals.{isDigit};
 ghost use Rattle.printing.specs.Writing.{Wrote, PutIn};
 ghost use Rattle.table.specs.Numbers.{capped, withDigit, numbersOf, kindOf, refusalOf};
-ghost use Rattle.table.specs.Reasons.{rowOf};
+ghost use Rattle.table.specs.Reasons.{rowCount, rowOf};
 ghost use Rattle.table.specs.Table.{tableOf, tableRoom};
 ghost use Rattle.table.specs.Explaining.{explanationOf};
 ghost use Rattle.table.specs.Filling.{NextNumber, cellAt, Width, Chosen, columnByte, columnRest, column, shownOf, plainValue, markedBy, filledBy, mostFilled, partOf, reasons, textOf, tableText, explanationText};
@@ -462,7 +462,7 @@ fn put_text(
     row: usize,
     parts: usize,
 ) -> usize
-    requires { ⌜ (at + 2048 ≤ length (now out)) × (13 ≤ width) × (width ≤ 28) × (text < 9) × (row < 12) × (parts ≤ 2) ⌝ }
+    requires { ⌜ (at + 2048 ≤ length (now out)) × (13 ≤ width) × (width ≤ 28) × (text < 9) × (row < rowCount) × (parts ≤ 2) ⌝ }
     ensures { λ r. ⌜ Wrote (now (out .entry)) at (textOf (now (numbers .entry)) width text (partOf reasons (2 * row) parts)) (now (out .exit)) r ⌝ }
 {
     let texts =
