@@ -1,4 +1,4 @@
-mod Filling
+mod Storing
 mod Lines
 mod Opening
 mod Runs

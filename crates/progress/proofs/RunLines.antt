@@ -19,7 +19,7 @@ use Rattle.lines.specs.Feeding.{Registers, registersOf, withReadings}
 use Rattle.progress.specs.Progressing.{stateOf, lineAt, isRun, isRunExpected, runsBytes, runsState, RunsRead}
 use Rattle.progress.specs.Ending.{runAt, ranTo}
 use Rattle.text.proofs.Laws.{place-within}
-use Rattle.progress.proofs.Filling.{filled-front, filled-both}
+use Rattle.progress.proofs.Storing.{stored-front, stored-both}
 use Rattle.progress.proofs.Lines.{least-taken}
 use Rattle.lines.proofs.Laws.{later-run, run-yes, expected-later}
 
@@ -270,13 +270,13 @@ module _ (n : ℕ) (l : List ℕ) (run : Run) (q : run ≡ runAt l n) (some : ru
 
 -- x is the progress before the loop; n readings stand at the front of both registers.
 module _ (x : Progress) (number n : ℕ) (d e l : List ℕ) (expected : x .expected ≡ 16) (long : length d ≡ 2976) (wide : length e ≡ 2976) (within : n ≤ 2976) where
-  filled : length (take n d) ≡ n
-  filled = omega (arith, length-take n d)
+  stored : length (take n d) ≡ n
+  stored = omega (arith, length-take n d)
 
   module _ (run : Run) (q : run ≡ runAt l n) where
     pub turn-none : run .bytes ≡ 0 → isRunExpected l (ranTo x number (take n d) (take n e)) ≡ false
     unfolding runAt
-    turn-none h = is-expected l (ranTo x number (take n d) (take n e)) false expected (rw filled (by (isRun l n) refl))
+    turn-none h = is-expected l (ranTo x number (take n d) (take n e)) false expected (rw stored (by (isRun l n) refl))
       where
         by : (b : Bool) → isRun l n ≡ b → b ≡ false
         by false p = refl
@@ -284,7 +284,7 @@ module _ (x : Progress) (number n : ℕ) (d e l : List ℕ) (expected : x .expec
 
     module _ (some : run .bytes ≡ 0 → ⊥) where
       pub turn-expected : isRunExpected l (ranTo x number (take n d) (take n e)) ≡ true
-      turn-expected = is-expected l (ranTo x number (take n d) (take n e)) true expected (rw filled (there n l run q some))
+      turn-expected = is-expected l (ranTo x number (take n d) (take n e)) true expected (rw stored (there n l run q some))
 
       module _ (f g : List ℕ) (next : ℕ) (wf : f ≡ sets d n (replicate (n + run .count - n) (run .delivered)))
           (wg : g ≡ sets e n (replicate (n + run .count - n) (run .received))) where
@@ -296,8 +296,8 @@ module _ (x : Progress) (number n : ℕ) (d e l : List ℕ) (expected : x .expec
             ≡ lineRead (lineAt l) (ranTo x number (take n d) (take n e)) .state
         unfolding counted
         turn-state k =
-            let front = filled-front d f n (n + run .count) (run .delivered) (omega arith) (omega (arith, long, fits)) wf in
-            let back = filled-front e g n (n + run .count) (run .received) (omega arith) (omega (arith, wide, fits)) wg in
+            let front = stored-front d f n (n + run .count) (run .delivered) (omega arith) (omega (arith, long, fits)) wf in
+            let back = stored-front e g n (n + run .count) (run .received) (omega arith) (omega (arith, wide, fits)) wg in
             let more : n + run .count - n ≡ run .count = omega arith in
             let read = ap (λ (y : Outcome). y .state) (run-read l (ranTo x number (take n d) (take n e)) turn-expected) in
             rw (front, back, more, k, run-is n l run q some) (sym read)
@@ -305,16 +305,16 @@ module _ (x : Progress) (number n : ℕ) (d e l : List ℕ) (expected : x .expec
         pub turn-registers : (r : Registers) → registersOf d e ≡ withReadings (ranTo x number (take n d) (take n e)) r
             → registersOf f g ≡ withReadings (ranTo x next (take (n + run .count) f) (take (n + run .count) g)) r
         turn-registers r w =
-            filled-both x number next n (n + run .count) (run .delivered) (run .received) r d e f g (omega arith)
+            stored-both x number next n (n + run .count) (run .delivered) (run .received) r d e f g (omega arith)
             (omega (arith, long, fits)) (omega (arith, wide, fits)) w wf wg
 
 -- Before the first turn: r readings stand in both registers.
-pub loop-start : (x : Progress) (d e : List ℕ) (r n : ℕ) → length d ≡ 2976 → length e ≡ 2976 → r ≡ min (x .filled) (length d)
+pub loop-start : (x : Progress) (d e : List ℕ) (r n : ℕ) → length d ≡ 2976 → length e ≡ 2976 → r ≡ min (x .stored) (length d)
     → n ≡ min r (length e) → ranTo x (x .lines) (take n d) (take n e) ≡ stateOf x d e
 loop-start x d e r n p q h k =
-    let first : n ≡ min (x .filled) (length d) = omega arith in
-    let second : n ≡ min (x .filled) (length e) = omega arith in
-    rw (least-taken d (x .filled) n first, least-taken e (x .filled) n second)
+    let first : n ≡ min (x .stored) (length d) = omega arith in
+    let second : n ≡ min (x .stored) (length e) = omega arith in
+    rw (least-taken d (x .stored) n first, least-taken e (x .stored) n second)
 
 -- No run is expected.
 pub none-expected : (s : State) (r : Registers) (input : List ℕ) → (s .expected ≡ 16 → ⊥) → r ≡ withReadings s r → RunsRead s r input 0 s r

@@ -41,8 +41,8 @@ valuesWith xs expected v =
 
 -- The run line at the front of an input, where it fits after so many readings.
 unfoldable pub runAt : List ℕ → ℕ → Run
-runAt l filled =
-    cond (isRun l filled)
+runAt l stored =
+    cond (isRun l stored)
     (record {
       bytes = placeOf 10 l + 1;
       count = getD (runLine (lineAt l)) 0 0;
@@ -57,4 +57,4 @@ ranTo x number delivered received =
     state number (x .expected) (x .values) (x .account) (monthOf (x .month) (x .critical) delivered received)
 
 abbrev pub StandsAfter : Progress → ℕ → ℕ → Progress → Type 0
-StandsAfter before number filled later = (d e : List ℕ) → stateOf later d e ≡ ranTo before number (take filled d) (take filled e)
+StandsAfter before number stored later = (d e : List ℕ) → stateOf later d e ≡ ranTo before number (take stored d) (take stored e)

@@ -17,7 +17,7 @@ use Rattle.lines.specs.Feeding.{Registers, withReadings}
 abbrev pub stateOf : Progress → List ℕ → List ℕ → State
 stateOf x delivered received =
     state (x .lines) (x .expected) (x .values) (x .account)
-    (monthOf (x .month) (x .critical) (take (x .filled) delivered) (take (x .filled) received))
+    (monthOf (x .month) (x .critical) (take (x .stored) delivered) (take (x .stored) received))
 
 -- Whatever the registers hold, the progress stands for a state.
 abbrev pub StandsFor : State → Progress → Type 0
@@ -42,9 +42,9 @@ lineAt l = take (placeOf 10 l) l
 
 -- Whether it is complete, a readable run line, and fits after so many readings.
 unfoldable pub isRun : List ℕ → ℕ → Bool
-isRun l filled =
+isRun l stored =
     cond (eqb (placeOf 10 l) (length l)) false
-    (cond (isUnreadable (runLine (lineAt l))) false (leb (filled + getD (runLine (lineAt l)) 0 0) runLimit))
+    (cond (isUnreadable (runLine (lineAt l))) false (leb (stored + getD (runLine (lineAt l)) 0 0) runLimit))
 
 unfoldable pub isRunExpected : List ℕ → State → Bool
 isRunExpected l s = eqb (s .expected) runExpected && isRun l (length (s .entered .delivered))

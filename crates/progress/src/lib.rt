@@ -103,7 +103,7 @@ pub struct Progress {
     account: Account,
     month: u32,
     critical: u32,
-    filled: usize,
+    stored: usize,
 }
 
 // The progress after a line, and where its text ends.
@@ -279,7 +279,7 @@ fn begin_month(progress: Progress, month: u32) -> Progress
     let mut next = progress;
     next.expected = CRITICAL_EXPECTED;
     next.month = month;
-    next.filled = 0;
+    next.stored = 0;
     next
 }
 
@@ -314,17 +314,17 @@ fn critical_line(progress: Progress, line: &[u8], out: &mut [u8], at: usize) -> 
 }
 
 // How many readings of the month a register has.
-fn readings(register: &[u32], filled: usize) -> usize
-    ensures { λ r. ⌜ r ≡ min filled (length (now (register .entry))) ⌝ }
+fn readings(register: &[u32], stored: usize) -> usize
+    ensures { λ r. ⌜ r ≡ min stored (length (now (register .entry))) ⌝ }
 {
-    if filled < register.len() {
-        return filled;
+    if stored < register.len() {
+        return stored;
     }
     register.len()
 }
 
 // Stores a reading at each place from one to another.
-fn fill(register: &mut [u32], from: usize, to: usize, reading: u32)
+fn store(register: &mut [u32], from: usize, to: usize, reading: u32)
     requires { ⌜ from ≤ to ⌝ }
     requires { ⌜ to ≤ length (now register) ⌝ }
     ensures { λ r. ⌜ now (register .exit) ≡ sets (now (register .entry)) from (replicate (to - from) reading) ⌝ }
@@ -348,16 +348,16 @@ fn run_of(
     requires { ⌜ hasRoom (now out) at ≡ true ⌝ }
     ensures { λ r. ⌜ EndsWith (now (out .entry)) at (registersOf (now (delivered .entry)) (now (received .entry))) (runRead (numbers .first) (numbers .second) (numbers .third) (stateOf progress (now (delivered .entry)) (now (received .entry)))) (stateOf (r .progress) (now (delivered .exit)) (now (received .exit))) (registersOf (now (delivered .exit)) (now (received .exit))) (now (out .exit)) (r .at) ⌝ }
 {
-    let filled = readings(delivered, progress.filled);
+    let stored = readings(delivered, progress.stored);
     let more = numbers.first as usize;
-    if MOST_READINGS < filled + more {
+    if MOST_READINGS < stored + more {
         return fault_at(progress, out, at);
     }
-    let end = filled + more;
-    fill(delivered, filled, end, numbers.second);
-    fill(received, filled, end, numbers.third);
+    let end = stored + more;
+    store(delivered, stored, end, numbers.second);
+    store(received, stored, end, numbers.third);
     let mut next = progress;
-    next.filled = end;
+    next.stored = end;
     Ended { progress: next, at }
 }
 
@@ -366,8 +366,8 @@ fn bill(progress: Progress, delivered: &[u32], received: &[u32]) -> BillingReply
     ensures { λ r. ⌜ r ≡ monthReply (stateOf progress (now (delivered .entry)) (now (received .entry))) ⌝ }
 {
     let account = progress.account;
-    let taken = readings(delivered, progress.filled);
-    let given = readings(received, progress.filled);
+    let taken = readings(delivered, progress.stored);
+    let given = readings(received, progress.stored);
     account.billing(
         progress.month,
         &delivered[..taken],
@@ -427,9 +427,9 @@ fn run_or_bill_line(
 }
 
 // The run line at the front of an input, where it is complete, readable and fits after so many readings.
-fn next_run(input: &[u8], filled: usize) -> Run
-    requires { ⌜ filled ≤ 2976 ⌝ }
-    ensures { λ r. ⌜ r ≡ runAt (now (input .entry)) filled ⌝ }
+fn next_run(input: &[u8], stored: usize) -> Run
+    requires { ⌜ stored ≤ 2976 ⌝ }
+    ensures { λ r. ⌜ r ≡ runAt (now (input .entry)) stored ⌝ }
 {
     let none = Run {
         bytes: 0,
@@ -446,7 +446,7 @@ fn next_run(input: &[u8], filled: usize) -> Run
         return none;
     }
     let count = numbers.first as usize;
-    if MOST_READINGS < filled + count {
+    if MOST_READINGS < stored + count {
         return none;
     }
     Run {
@@ -458,12 +458,12 @@ fn next_run(input: &[u8], filled: usize) -> Run
 }
 
 // The progress after run lines.
-fn with_runs(progress: Progress, number: u64, filled: usize) -> Progress
-    ensures { λ r. ⌜ StandsAfter progress number filled r ⌝ }
+fn with_runs(progress: Progress, number: u64, stored: usize) -> Progress
+    ensures { λ r. ⌜ StandsAfter progress number stored r ⌝ }
 {
     let mut next = progress;
     next.lines = number;
-    next.filled = filled;
+    next.stored = stored;
     next
 }
 
@@ -508,7 +508,7 @@ impl Progress {
             account,
             month: 0,
             critical: 0,
-            filled: 0,
+            stored: 0,
         }
     }
 
@@ -552,24 +552,24 @@ impl Progress {
             };
         }
         let mut number = self.lines;
-        let mut filled = readings(received, readings(delivered, self.filled));
+        let mut stored = readings(received, readings(delivered, self.stored));
         let mut taken = 0;
         while taken < input.len() {
-            let run = next_run(&input[taken..], filled);
+            let run = next_run(&input[taken..], stored);
             if run.bytes == 0 {
                 return Ran {
-                    progress: with_runs(self, number, filled),
+                    progress: with_runs(self, number, stored),
                     taken,
                 };
             }
-            fill(delivered, filled, filled + run.count, run.delivered);
-            fill(received, filled, filled + run.count, run.received);
+            store(delivered, stored, stored + run.count, run.delivered);
+            store(received, stored, stored + run.count, run.received);
             number = next_number(number);
-            filled += run.count;
+            stored += run.count;
             taken += run.bytes;
         }
         Ran {
-            progress: with_runs(self, number, filled),
+            progress: with_runs(self, number, stored),
             taken,
         }
     }

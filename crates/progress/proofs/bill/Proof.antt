@@ -19,11 +19,11 @@ readings-requires-2 c κs = search needs
 
 -- src/lib.rt:253:9
 slice-aggregate-billing : tie.Need-slice-aggregate-billing
-slice-aggregate-billing c = least-long (c .before .before .before .before .before .before .args .delivered .now) (c .before .before .before .before .before .before .args .progress .filled) _ (c .before .before .readings .ensures)
+slice-aggregate-billing c = least-long (c .before .before .before .before .before .before .args .delivered .now) (c .before .before .before .before .before .before .args .progress .stored) _ (c .before .before .readings .ensures)
 
 -- src/lib.rt:254:9
 slice-aggregate-billing-2 : tie.Need-slice-aggregate-billing-2
-slice-aggregate-billing-2 c = least-long (c .before .before .before .before .before .before .before .args .received .now) (c .before .before .before .before .before .before .before .args .progress .filled) _ (c .before .before .readings2 .ensures)
+slice-aggregate-billing-2 c = least-long (c .before .before .before .before .before .before .before .args .received .now) (c .before .before .before .before .before .before .before .args .progress .stored) _ (c .before .before .readings2 .ensures)
 
 -- src/lib.rt:251:5
 billing-requires : tie.Need-billing-requires
@@ -33,8 +33,8 @@ billing-requires c κs = search needs
 returns : tie.Need-returns
 returns c =
     let args = c .before .before .before .before .before .before .before .before .args in
-    let taken = least-taken (args .delivered .now) (args .progress .filled) _ (c .before .before .before .before .readings .ensures) in
-    let given = least-taken (args .received .now) (args .progress .filled) _ (c .before .before .before .readings2 .ensures) in
+    let taken = least-taken (args .delivered .now) (args .progress .stored) _ (c .before .before .before .before .readings .ensures) in
+    let given = least-taken (args .received .now) (args .progress .stored) _ (c .before .before .before .readings2 .ensures) in
     c .billing .ensures .0 ∙ rw (taken, given)
 
 pub bill-spec : {M : Type 1} → statement M

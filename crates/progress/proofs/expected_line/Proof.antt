@@ -1,6 +1,6 @@
 -- `progress::expected_line` asks what is expected in the order of the definition.
 use Rattle.progress.specs.Progressing.{stateOf}
-use Rattle.progress.proofs.Filling.{ends-same}
+use Rattle.progress.proofs.Storing.{ends-same}
 use Rattle.progress.proofs.Lines.{quiet, ends-by}
 use Rattle.lines.proofs.Laws.{expected-opening, expected-bill, expected-critical, expected-later, expected-none}
 use borrow.Author.Needs.{needs}

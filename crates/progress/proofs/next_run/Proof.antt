@@ -14,7 +14,7 @@ returns : tie.Need-returns
 returns c =
     let found = c .before in
     let args = found .before .before .args in
-    no-newline (args .input .now) (args .filled) (found .place-of .result) (found .place-of .ensures) (c .if1 .taken)
+    no-newline (args .input .now) (args .stored) (found .place-of .result) (found .place-of .ensures) (c .if1 .taken)
 
 slice-aggregate-run-line : tie.Need-slice-aggregate-run-line
 slice-aggregate-run-line c =
@@ -31,7 +31,7 @@ returns-2 c =
     let else = line .before .before in
     let found = else .before in
     let args = found .before .before .args in
-    no-numbers (args .input .now) (args .filled) (found .place-of .result) (found .place-of .ensures) (line .run-line .result)
+    no-numbers (args .input .now) (args .stored) (found .place-of .result) (found .place-of .ensures) (line .run-line .result)
     (line .run-line .ensures) (else .if1 .left) (c .if2 .taken)
 
 cast-count : tie.Need-cast-count
@@ -47,7 +47,7 @@ returns-3 c =
     let else = line .before .before in
     let found = else .before in
     let args = found .before .before .args in
-    no-place (args .input .now) (args .filled) (found .place-of .result) (found .place-of .ensures) (line .run-line .result)
+    no-place (args .input .now) (args .stored) (found .place-of .result) (found .place-of .ensures) (line .run-line .result)
     (line .run-line .ensures) (else .if1 .left) (read .if2 .left) (c .if3 .taken)
 
 add-t7 : tie.Need-add-t7
@@ -64,7 +64,7 @@ returns-4 c =
     let else = line .before .before in
     let found = else .before in
     let args = found .before .before .args in
-    run-there (args .input .now) (args .filled) (found .place-of .result) (found .place-of .ensures) (line .run-line .result)
+    run-there (args .input .now) (args .stored) (found .place-of .result) (found .place-of .ensures) (line .run-line .result)
     (line .run-line .ensures) (else .if1 .left) (read .if2 .left) (c .if3 .left)
 
 pub next-run-spec : {M : Type 1} → statement M

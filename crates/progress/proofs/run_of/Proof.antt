@@ -1,5 +1,5 @@
 -- `progress::run_of` stops at a run past the most readings: `Runs` has both cases.
-use Rattle.progress.proofs.Filling.{ends-same}
+use Rattle.progress.proofs.Storing.{ends-same}
 use Rattle.progress.proofs.Lines.{ends-by}
 use Rattle.progress.proofs.Runs.{run-past, run-fits}
 use borrow.Author.Needs.{needs}
@@ -7,7 +7,7 @@ use Rattle.progress.proofs.run_of.Statement.{statement}
 use Rattle.progress.proofs.run_of.Tie as tie
 use Rattle.progress.proofs.run_of.Reads as reads
 use Rattle.progress.proofs.run_of.Lts as lts
-use Rattle.progress.proofs.fill.Reads as fill-reads
+use Rattle.progress.proofs.store.Reads as store-reads
 use Rattle.progress.proofs.readings.Reads as readings-reads
 use Rattle.progress.proofs.fault_at.Reads as fault-at-reads
 
@@ -46,19 +46,19 @@ add-end : tie.Need-add-end
 add-end c = search needs
 
 -- src/lib.rt:237:5
-fill-requires : tie.Need-fill-requires
-fill-requires c κs = search needs
+store-requires : tie.Need-store-requires
+store-requires c κs = search needs
 
 -- src/lib.rt:238:5
-fill-requires-2 : tie.Need-fill-requires-2
-fill-requires-2 c κs = search needs
+store-requires-2 : tie.Need-store-requires-2
+store-requires-2 c κs = search needs
 
 -- src/lib.rt:220:1
 returns-2 : tie.Need-returns-2
 returns-2 c =
     let st = c .before .before .before .before .before .before .before .before .before .before in
     run-fits (st .args .progress) (st .args .delivered .now) (st .args .received .now) _ _ (st .args .numbers .first) (st .args .numbers .second) (st .args .numbers .third)
-    _ (c .before .before .before .before .before .before .before .readings-arg2 .given .0) (c .before .fill-arg2 .given .0 .1) (c .before .before .before .before .before .before .readings .ensures) (c .before .before .before .before .if1 .left) (c .before .before .fill .ensures) (c .fill2 .ensures) (st .args .out .now) (st .args .at)
+    _ (c .before .before .before .before .before .before .before .readings-arg2 .given .0) (c .before .store-arg2 .given .0 .1) (c .before .before .before .before .before .before .readings .ensures) (c .before .before .before .before .if1 .left) (c .before .before .store .ensures) (c .store2 .ensures) (st .args .out .now) (st .args .at)
 
 pub run-of-spec : {M : Type 1} → statement M
 run-of-spec =
@@ -71,6 +71,6 @@ run-of-spec =
     same-length
     returns
     add-end
-    fill-requires
-    fill-requires-2
+    store-requires
+    store-requires-2
     returns-2)

@@ -1,6 +1,6 @@
 -- `progress::run_or_bill_line` reads a run, or ends the month at the next bill line.
 use Rattle.progress.specs.Progressing.{stateOf}
-use Rattle.progress.proofs.Filling.{ends-same}
+use Rattle.progress.proofs.Storing.{ends-same}
 use Rattle.progress.proofs.Lines.{ends-by, month-begins}
 use Rattle.lines.proofs.Laws.{later-run, later-no, later-bill}
 use borrow.Author.Needs.{needs}

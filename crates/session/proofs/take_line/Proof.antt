@@ -30,7 +30,7 @@ returns c =
     let d = args .delivered .now in
     let e = args .received .now in
     all-held (args .line .now) (kept .keep .result .line) (args .input .now) (args .out .now) (args .session .held) (kept .keep .result .held)
-    (found .place-of .result) (args .at) (stateOf x d e) _ (readings-same (stateOf x d e) (x .filled) d e refl refl) (found .place-of .ensures)
+    (found .place-of .result) (args .at) (stateOf x d e) _ (readings-same (stateOf x d e) (x .stored) d e refl refl) (found .place-of .ensures)
     (search needs) (kept .keep .ensures) (c .if1 .taken)
 
 slice-aggregate-read-held : tie.Need-slice-aggregate-read-held
@@ -66,7 +66,7 @@ returns-2 c =
     let d = args .delivered .now in
     let e = args .received .now in
     line-ended (args .line .now) (kept .keep .result .line) (args .input .now) (args .out .now) (args .session .held) (kept .keep .result .held)
-    (found .place-of .result) (args .at) (stateOf x d e) _ (readings-same (stateOf x d e) (x .filled) d e refl refl) (found .place-of .ensures)
+    (found .place-of .result) (args .at) (stateOf x d e) _ (readings-same (stateOf x d e) (x .stored) d e refl refl) (found .place-of .ensures)
     (sym (slice-aggregate-read-held (read .before .before .before .before))) (kept .keep .ensures) _ (read .read-held .result .at) _ _ (else .if1 .left) (start .pre) (read .read-held .ensures)
 
 pub take-line-spec : {M : Type 1} → statement M

@@ -26,7 +26,7 @@ returns c =
     let d = args .delivered .now in
     let e = args .received .now in
     takes-none (stateOf x d e) (stateOf (runs .result .progress) (runs .last .1 .1 .0) (runs .last .1 .1 .1 .0)) _ _ (args .line .now)
-    (args .input .now) (args .out .now) (args .at) (runs .result .taken) (readings-same (stateOf x d e) (x .filled) d e refl refl)
+    (args .input .now) (args .out .now) (args .at) (runs .result .taken) (readings-same (stateOf x d e) (x .stored) d e refl refl)
     (runs .ensures) (then .if1 .taken) (c .before .before .take-line .ensures)
 
 returns-2 : tie.Need-returns-2
@@ -38,7 +38,7 @@ returns-2 c =
     let d = args .delivered .now in
     let e = args .received .now in
     takes-runs (stateOf x d e) (stateOf (runs .result .progress) (runs .last .1 .1 .0) (runs .last .1 .1 .1 .0)) _ _ (args .line .now)
-    (args .input .now) (args .out .now) (args .at) (runs .result .taken) (readings-same (stateOf x d e) (x .filled) d e refl refl)
+    (args .input .now) (args .out .now) (args .at) (runs .result .taken) (readings-same (stateOf x d e) (x .stored) d e refl refl)
     (runs .ensures) (c .if1 .left)
 
 pub take-runs-spec : {M : Type 1} → statement M

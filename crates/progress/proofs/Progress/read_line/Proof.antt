@@ -50,7 +50,7 @@ returns-2 c =
     let d = args .delivered .now in
     let e = args .received .now in
     reads-none _ _ _ _ _ (sym (c .before .has-room .ensures) ∙ c .if1 .left)
-    (readings-same (stateOf x d e) (x .filled) d e refl refl)
+    (readings-same (stateOf x d e) (x .stored) d e refl refl)
 
 pub read-line-spec : {M : Type 1} → statement M
 read-line-spec =

@@ -14,13 +14,13 @@ use Rattle.progress.proofs.Progress.read_runs.Statement.{statement}
 use Rattle.progress.proofs.Progress.read_runs.Tie as tie
 
 abbrev Inv-loop : tie.InvT-loop
-Inv-loop self input delivered₀ received₀ number₀ filled₀ taken₀ delivered received number filled taken =
-    (filled ≤ 2976) × (length delivered ≡ 2976) × (length received ≡ 2976)
+Inv-loop self input delivered₀ received₀ number₀ stored₀ taken₀ delivered received number stored taken =
+    (stored ≤ 2976) × (length delivered ≡ 2976) × (length received ≡ 2976)
     × Running (stateOf self delivered₀ received₀) (registersOf delivered₀ received₀) input taken
-    (ranTo self number (take filled delivered) (take filled received)) (registersOf delivered received)
+    (ranTo self number (take stored delivered) (take stored received)) (registersOf delivered received)
 
 abbrev μ-loop : tie.MeasureT-loop
-μ-loop self input delivered₀ received₀ number₀ filled₀ taken₀ delivered received number filled taken = length input - taken
+μ-loop self input delivered₀ received₀ number₀ stored₀ taken₀ delivered received number stored taken = length input - taken
 
 returns : tie.Need-returns Inv-loop μ-loop
 returns c =
@@ -28,7 +28,7 @@ returns c =
     let x = args .self in
     let d = args .delivered .now in
     let e = args .received .now in
-    none-expected (stateOf x d e) (registersOf d e) (args .input .now) (c .if1 .taken) (readings-same (stateOf x d e) (x .filled) d e refl refl)
+    none-expected (stateOf x d e) (registersOf d e) (args .input .now) (c .if1 .taken) (readings-same (stateOf x d e) (x .stored) d e refl refl)
 
 readings-requires : tie.Need-readings-requires Inv-loop μ-loop
 readings-requires c κs = search needs
@@ -78,65 +78,65 @@ returns-2 c =
     let input = args .input .now in
     let taken = lp .loop .taken in
     let rest = take (length input - taken) (drop taken input) in
-    let s = ranTo (args .self) (lp .loop .number) (take (lp .loop .filled) d) (take (lp .loop .filled) e) in
+    let s = ranTo (args .self) (lp .loop .number) (take (lp .loop .stored) d) (take (lp .loop .stored) e) in
     let before = stateOf (args .self) (args .delivered .now) (args .received .now) in
     ran-to before s (stateOf (c .with-runs .result) d e) _ _ input taken (c .with-runs .ensures d e)
     (running-none before s _ _ input taken (lp .loop .inv .3)
-    (turn-none (args .self) (lp .loop .number) (lp .loop .filled) d e rest (else .if1 .left) (lp .loop .inv .1)
+    (turn-none (args .self) (lp .loop .number) (lp .loop .stored) d e rest (else .if1 .left) (lp .loop .inv .1)
     (lp .loop .inv .2) (lp .loop .inv .0) (next .next-run .result) (next .next-run .ensures) (c .before .if2 .taken)))
 
-add-fill : tie.Need-add-fill Inv-loop μ-loop
-add-fill c =
+add-store : tie.Need-add-store Inv-loop μ-loop
+add-store c =
     let run = c .before .before .before .before in
     let lp = run .before .before .before .loop in
     let args = run .before .before .before .before .before .before .before .before .before .before .before .before .before .args in
     let rest = take (length (args .input .now) - lp .taken) (drop (lp .taken) (args .input .now)) in
     let next = run .next-run in
     let some = c .before .before .if2 .left in
-    omega (arith, turn-fits (lp .filled) rest (next .result) (next .ensures) some)
+    omega (arith, turn-fits (lp .stored) rest (next .result) (next .ensures) some)
 
-fill-requires : tie.Need-fill-requires Inv-loop μ-loop
-fill-requires c κs =
+store-requires : tie.Need-store-requires Inv-loop μ-loop
+store-requires c κs =
     let run = c .before .before .before .before in
     let lp = run .before .before .before .loop in
     let args = run .before .before .before .before .before .before .before .before .before .before .before .before .before .args in
     let rest = take (length (args .input .now) - lp .taken) (drop (lp .taken) (args .input .now)) in
     let next = run .next-run in
-    (omega arith, omega (arith, turn-fits (lp .filled) rest (next .result) (next .ensures) (c .before .before .if2 .left), lp .inv .1))
+    (omega arith, omega (arith, turn-fits (lp .stored) rest (next .result) (next .ensures) (c .before .before .if2 .left), lp .inv .1))
 
-add-fill-2 : tie.Need-add-fill-2 Inv-loop μ-loop
-add-fill-2 c =
+add-store-2 : tie.Need-add-store-2 Inv-loop μ-loop
+add-store-2 c =
     let run = c .before .before .before .before .before .before .before in
     let lp = run .before .before .before .loop in
     let args = run .before .before .before .before .before .before .before .before .before .before .before .before .before .args in
     let rest = take (length (args .input .now) - lp .taken) (drop (lp .taken) (args .input .now)) in
     let next = run .next-run in
     let some = c .before .before .before .before .before .if2 .left in
-    omega (arith, turn-fits (lp .filled) rest (next .result) (next .ensures) some)
+    omega (arith, turn-fits (lp .stored) rest (next .result) (next .ensures) some)
 
-fill-requires-2 : tie.Need-fill-requires-2 Inv-loop μ-loop
-fill-requires-2 c κs =
+store-requires-2 : tie.Need-store-requires-2 Inv-loop μ-loop
+store-requires-2 c κs =
     let run = c .before .before .before .before .before .before .before in
     let lp = run .before .before .before .loop in
     let args = run .before .before .before .before .before .before .before .before .before .before .before .before .before .args in
     let rest = take (length (args .input .now) - lp .taken) (drop (lp .taken) (args .input .now)) in
     let next = run .next-run in
     let some = c .before .before .before .before .before .if2 .left in
-    let long = c .before .fill-arg2 .given .0 .1 in
-    (omega arith, omega (arith, turn-fits (lp .filled) rest (next .result) (next .ensures) some, long))
+    let long = c .before .store-arg2 .given .0 .1 in
+    (omega arith, omega (arith, turn-fits (lp .stored) rest (next .result) (next .ensures) some, long))
 
 next-number-requires : tie.Need-next-number-requires Inv-loop μ-loop
 next-number-requires c κs = search needs
 
-add-filled : tie.Need-add-filled Inv-loop μ-loop
-add-filled c =
+add-stored : tie.Need-add-stored Inv-loop μ-loop
+add-stored c =
     let run = c .before .before .before .before .before .before .before .before .before .before in
     let lp = run .before .before .before .loop in
     let args = run .before .before .before .before .before .before .before .before .before .before .before .before .before .args in
     let rest = take (length (args .input .now) - lp .taken) (drop (lp .taken) (args .input .now)) in
     let next = run .next-run in
     let some = c .before .before .before .before .before .before .before .before .if2 .left in
-    omega (arith, turn-fits (lp .filled) rest (next .result) (next .ensures) some)
+    omega (arith, turn-fits (lp .stored) rest (next .result) (next .ensures) some)
 
 add-taken : tie.Need-add-taken Inv-loop μ-loop
 add-taken c =
@@ -150,7 +150,7 @@ add-taken c =
     let start = run .before .before .before .before .before .before .before .before .before .before .before .before .before in
     let some = c .before .before .before .before .before .before .before .before .before .if2 .left in
     let less = length-take (length input - lp .taken) (drop (lp .taken) input) in
-    omega (arith, start .good .1 .0, less, long, turn-within (lp .filled) rest (next .result) (next .ensures) some)
+    omega (arith, start .good .1 .0, less, long, turn-within (lp .stored) rest (next .result) (next .ensures) some)
 
 loop-less : tie.Need-loop-less Inv-loop μ-loop
 loop-less c =
@@ -160,7 +160,7 @@ loop-less c =
     let rest = take (length (args .input .now) - lp .taken) (drop (lp .taken) (args .input .now)) in
     let next = run .next-run in
     let some = c .before .before .before .before .before .before .before .before .before .if2 .left in
-    let bytes = turn-bytes (lp .filled) rest (next .result) (next .ensures) some in
+    let bytes = turn-bytes (lp .stored) rest (next .result) (next .ensures) some in
     let inside = run .before .before .loop-test .taken in
     omega (arith, inside, bytes)
 
@@ -175,14 +175,14 @@ loop-again c =
     let rest = take (length input - lp .taken) (drop (lp .taken) input) in
     let next = run .next-run in
     let some = c .before .before .before .before .before .before .before .before .before .if2 .left in
-    let made = c .before .before .before .before .before .before .fill in
-    let given = c .before .before .before .fill2 in
+    let made = c .before .before .before .before .before .before .store in
+    let given = c .before .before .before .store2 in
     let number = c .before .before .next-number in
-    let n = lp .filled in
+    let n = lp .stored in
     let d = lp .delivered in
     let e = lp .received in
     let s = ranTo x (lp .number) (take n d) (take n e) in (
-      omega (arith, turn-fits (lp .filled) rest (next .result) (next .ensures) some),
+      omega (arith, turn-fits (lp .stored) rest (next .result) (next .ensures) some),
       omega (arith, made .kept .0, lp .inv .1),
       omega (arith, given .kept .0, lp .inv .2),
       running-more (stateOf x (args .delivered .now) (args .received .now)) s _ _ input (lp .taken) (lp .inv .3)
@@ -205,7 +205,7 @@ returns-3 c =
     let args = lp .before .before .before .before .before .before .before .before .before .before .args in
     let d = lp .loop .delivered in
     let e = lp .loop .received in
-    let s = ranTo (args .self) (lp .loop .number) (take (lp .loop .filled) d) (take (lp .loop .filled) e) in
+    let s = ranTo (args .self) (lp .loop .number) (take (lp .loop .stored) d) (take (lp .loop .stored) e) in
     let before = stateOf (args .self) (args .delivered .now) (args .received .now) in
     ran-to before s (stateOf (c .with-runs2 .result) d e) _ _ (args .input .now) (lp .loop .taken) (c .with-runs2 .ensures d e)
     (running-all before s _ _ (args .input .now) (lp .loop .taken) (lp .loop .inv .3) (c .before .loop-test .left))
@@ -226,12 +226,12 @@ read-runs-spec =
     next-run-requires
     with-runs-requires
     returns-2
-    add-fill
-    fill-requires
-    add-fill-2
-    fill-requires-2
+    add-store
+    store-requires
+    add-store-2
+    store-requires-2
     next-number-requires
-    add-filled
+    add-stored
     add-taken
     loop-less
     loop-again

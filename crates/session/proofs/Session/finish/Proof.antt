@@ -32,7 +32,7 @@ returns-2 c =
     let d = args .delivered .now in
     let e = args .received .now in
     finish-whole (args .self) (lent (args .line .now) d e) (args .out .now) (put .finish .last .1 .1 .1 .0) (least .least .result) (put .finish .result)
-    (least .least .ensures) (then .if2 .taken) (else .if1 .left) (readings-same (stateOf x d e) (x .filled) d e refl refl) (put .finish .ensures .text)
+    (least .least .ensures) (then .if2 .taken) (else .if1 .left) (readings-same (stateOf x d e) (x .stored) d e refl refl) (put .finish .ensures .text)
 
 read-held-requires : tie.Need-read-held-requires
 read-held-requires c κs = search needs

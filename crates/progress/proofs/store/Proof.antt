@@ -1,12 +1,12 @@
--- `progress::fill` stores one reading after the other: `Filling` has the step.
+-- `progress::store` stores one reading after the other: `Storing` has the step.
 use mathlib.Core.Path.{_≡_, refl, _∙_}
 use Prim.Native.Nat.{_≤_, _-_}
 use native.Mathlib.Omega.{arith}
 use lib.ListN.{length, replicate, length-set}
 use lib.Seq.{sets}
-use Rattle.progress.proofs.Filling.{filled-none, filled-more}
-use Rattle.progress.proofs.fill.Statement.{statement}
-use Rattle.progress.proofs.fill.Tie as tie
+use Rattle.progress.proofs.Storing.{stored-none, stored-more}
+use Rattle.progress.proofs.store.Statement.{statement}
+use Rattle.progress.proofs.store.Tie as tie
 
 abbrev Inv-loop : tie.InvT-loop
 Inv-loop register₀ from to reading place₀ register place =
@@ -18,7 +18,7 @@ abbrev μ-loop : tie.MeasureT-loop
 
 loop-holds : tie.Need-loop-holds Inv-loop μ-loop
 loop-holds c =
-    (omega arith, omega arith, refl, filled-none (c .args .register .now) (c .args .from) (c .args .reading))
+    (omega arith, omega arith, refl, stored-none (c .args .register .now) (c .args .from) (c .args .reading))
 
 mul-register : tie.Need-mul-register Inv-loop μ-loop
 mul-register c = omega arith
@@ -39,7 +39,7 @@ loop-again c =
       omega arith,
       omega arith,
       length-set (lp .register) (lp .place) (args .reading) ∙ lp .inv .2,
-      filled-more (args .register .now) (lp .register) (args .from) (lp .place) (args .reading) (lp .inv .0) (lp .inv .3),
+      stored-more (args .register .now) (lp .register) (args .from) (lp .place) (args .reading) (lp .inv .0) (lp .inv .3),
     )
 
 same-length : tie.Need-same-length Inv-loop μ-loop
@@ -51,8 +51,8 @@ returns c =
     let end : lp .place ≡ c .before .before .args .to = omega arith in
     rw (← end) (lp .inv .3)
 
-pub fill-spec : {M : Type 1} → statement M
-fill-spec =
+pub store-spec : {M : Type 1} → statement M
+store-spec =
     tie.close
     (tie.spec
     Inv-loop
