@@ -23,7 +23,7 @@ extern "C" {
 
 /* The version of the layout of calls, answers and accounts. It rises when a place, a code or a number of a refusal is added or changed, so compare
  * it with what the library that you link says: KOZEMPIL_LAYOUT == kozempil_layout(). */
-#define KOZEMPIL_LAYOUT 1
+#define KOZEMPIL_LAYOUT 2
 uint32_t kozempil_layout(void);
 
 /* Numbers of a call, of an answer and of an account. */
@@ -45,8 +45,12 @@ uint32_t kozempil_layout(void);
 #define KOZEMPIL_CARRIED_LIMIT UINT64_C(4000000000000)
 #define KOZEMPIL_STANDING_LIMIT UINT64_C(4000000000000)
 
+/* A lost reading: this value in the place of a reading of either register. It counts as the last reading before it in the same register of the
+ * same billing that isn't lost, for sums and demand alike. A register is never written to, and a day view shows it as it is. */
+#define KOZEMPIL_LOST 4294967295U
+
 /* The number of an answer: 0, or why the call is refused. Where several apply, the first one is given in the order 1, 2, 3, 4, 5, 6, 11, 7, 8,
- * 9, 10. */
+ * 9, 10, 13. */
 enum {
     KOZEMPIL_ACCEPTED = 0,
     KOZEMPIL_REFUSED_NOT_OPEN = 1,              /* repricing, billing or closing of a fresh account */
@@ -58,8 +62,9 @@ enum {
     KOZEMPIL_REFUSED_MONTH = 7,                 /* first month above the last one, or billing of a month other than the next */
     KOZEMPIL_REFUSED_REGISTER_LENGTH = 8,       /* a register of another length than the month's */
     KOZEMPIL_REFUSED_CRITICAL_DAYS = 9,         /* critical days past the month's last, or too many */
-    KOZEMPIL_REFUSED_READING = 10,              /* a reading above its limit */
-    KOZEMPIL_REFUSED_BOOK_FULL = 11             /* billing when the last month has been billed */
+    KOZEMPIL_REFUSED_READING = 10,              /* a reading above its limit, other than KOZEMPIL_LOST */
+    KOZEMPIL_REFUSED_BOOK_FULL = 11,            /* billing when the last month has been billed */
+    KOZEMPIL_REFUSED_FIRST_READING_LOST = 13    /* a register whose first reading is lost */
 };
 
 /* An account can't arise where it carries more than its limit in a period, has more standing than its limit, or a next month above

@@ -374,6 +374,26 @@ static void refusals_and_limits(void)
     same("after the last month", number(), KOZEMPIL_REFUSED_BOOK_FULL);
 }
 
+/* January's last reading is lost, off-peak as the one before it: it counts as 700 Wh, so 1,400 Wh were delivered off-peak. 13 comes behind 10. */
+static void lost_readings(void)
+{
+    open_home();
+    ask_to_bill(JANUARY, 0);
+    delivered[LENGTH - 2] = 700;
+    delivered[LENGTH - 1] = KOZEMPIL_LOST;
+    same("last reading lost", number(), KOZEMPIL_ACCEPTED);
+    same("delivered with it", answer[KOZEMPIL_ANSWER_DELIVERED + KOZEMPIL_PERIOD_OFF_PEAK], 1400);
+    same("still lost", delivered[LENGTH - 1], KOZEMPIL_LOST);
+    delivered[0] = KOZEMPIL_LOST;
+    same("first delivered reading lost", number(), KOZEMPIL_REFUSED_FIRST_READING_LOST);
+    delivered[LENGTH - 1] = KOZEMPIL_LOST - 1;
+    same("and one above the limit", number(), KOZEMPIL_REFUSED_READING);
+    open_home();
+    ask_to_bill(JANUARY, 0);
+    received[0] = KOZEMPIL_LOST;
+    same("first received reading lost", number(), KOZEMPIL_REFUSED_FIRST_READING_LOST);
+}
+
 /* A list: an opening, a billing that takes its readings from the registers, and a record that is no call. */
 static uint64_t list[4 * KOZEMPIL_CALL_LENGTH];
 static uint64_t answers[4 * KOZEMPIL_ANSWER_LENGTH];
@@ -500,6 +520,7 @@ int main(void)
     rows_of_a_banked_bill();
     lines_of_a_bridge_bill();
     refusals_and_limits();
+    lost_readings();
     lists_and_counts();
     views_and_texts();
     threads();

@@ -1,9 +1,10 @@
 //! Random calls and accounts. Most are accepted; each limit of 01 is met at,
-//! below and above now and then.
+//! below and above now and then, and some registers have gaps.
 
 use crate::random::Random;
 use crate::reference::account::{Account, Assisted, Class, PriceList, Rider, State, Terms};
 use crate::reference::calendar::{days_in_month, LAST_MONTH};
+use crate::reference::gaps::LOST;
 use crate::reference::hours::register_length;
 use crate::reference::ledger::{answer, Call};
 use crate::reference::refusal::{
@@ -164,7 +165,7 @@ pub fn critical_days(random: &mut Random, month: u32) -> u32 {
     }
 }
 
-/// Mostly of the month's length, with no reading above the limit.
+/// Mostly of the month's length, with no reading above the limit; one in three has gaps.
 pub fn register(random: &mut Random, month: u32) -> Vec<u32> {
     let right = register_length(month);
     let length = match random.below(40) {
@@ -199,10 +200,33 @@ pub fn register(random: &mut Random, month: u32) -> Vec<u32> {
     if random.once_in(20) {
         let place = random.below(length as u64) as usize;
         if let Some(reading) = register.get_mut(place) {
-            *reading = near(random, LARGEST_READING);
+            *reading = match random.below(4) {
+                0 => LOST - 1,
+                _ => near(random, LARGEST_READING),
+            };
         }
     }
+    if random.once_in(3) {
+        lose_readings(random, &mut register);
+    }
     register
+}
+
+/// One to four gaps, each of one reading up to all that follow. Few are at the start, where
+/// the month is refused.
+fn lose_readings(random: &mut Random, register: &mut [u32]) {
+    for _ in 0..=random.up_to(3) {
+        let start = match random.once_in(40) {
+            true => 0,
+            false => random.below(register.len() as u64) as usize,
+        };
+        let hours = random.up_to(96);
+        let days = random.up_to(960);
+        let all = register.len() as u32;
+        let length = random.pick([1, 1, 2, hours, hours, days, all]) as usize;
+        let end = register.len().min(start + length);
+        register[start..end].fill(LOST);
+    }
 }
 
 /// An account made by hand: any state, and bounds at, below and above.

@@ -127,7 +127,7 @@ billing-accepted a m delivered received x e =
     let (month, e8) = pass (not (eqb m (a .next))) 6 _ e7 in
     let (lengths, e9) = pass (lengthRefused m delivered || lengthRefused m received) 7 _ e8 in
     let (_, e10) = pass (criticalRefused m x) 8 _ e9 in
-    let (readings, _) = pass (readingRefused delivered || readingRefused received) 9 0 e10 in
+    let (readings, _) = pass (readingRefused delivered || readingRefused received) 9 _ e10 in
     let (dl, rl) = or-neither (lengthRefused m delivered) (lengthRefused m received) lengths in
     let (dr, rr) = or-neither (readingRefused delivered) (readingRefused received) readings in
     record {

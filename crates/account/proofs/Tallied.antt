@@ -7,7 +7,7 @@ use native.Mathlib.Omega.{arith}
 use borrow.Author.Tests.{ne-eqb}
 use Rattle.hours.specs.CriticalDays.{criticalRefused}
 use Rattle.hours.specs.Hours.{fixedSchedule, byPeriod}
-use Rattle.registers.specs.Registers.{sumOf, demandPower, lengthRefused, readingRefused, tallyOf}
+use Rattle.registers.specs.Registers.{sumOf, demandPower, lengthRefused, readingRefused, firstLost, tallyOf}
 use Rattle.registers.proofs.Laws.{tally-length, tally-right, power-within}
 use Rattle.registers.proofs.Totals.{total-within}
 use Rattle.tariff.proofs.Laws.{nameplate-within}
@@ -33,7 +33,7 @@ schedule-is a = refl
 
 -- Nothing is wrong.
 abbrev noFaults : Faults
-noFaults = record { wronglength = false; wrongdays = false; abovelimit = false }
+noFaults = record { wronglength = false; wrongdays = false; abovelimit = false; firstlost = false }
 
 module _ (a : Account) (m : ℕ) (delivered received : List ℕ) (x : ℕ) where
   pub number-is :
@@ -97,10 +97,10 @@ module _ (a : Account) (m : ℕ) (delivered received : List ℕ) (x : ℕ) where
       let k : n ≡ billingRow (isFresh (a .stage)) (unusable a) (a .next) m noFaults = e ∙ rw (f, u) in
       k ∙ by (isFresh (a .stage)) (unusable a) (ltb lastMonth (a .next)) (not (eqb m (a .next))) (λ q. z (k ∙ q))
     where
-      by : (p q b c : Bool) → (firstOf (row 1 p ∷ row 3 q ∷ row 11 b ∷ row 7 c ∷ row 8 false ∷ row 9 false ∷ row 10 false ∷ []) ≡ 0 → ⊥)
-          → firstOf (row 1 p ∷ row 3 q ∷ row 11 b ∷ row 7 c ∷ row 8 false ∷ row 9 false ∷ row 10 false ∷ [])
+      by : (p q b c : Bool) → (firstOf (row 1 p ∷ row 3 q ∷ row 11 b ∷ row 7 c ∷ row 8 false ∷ row 9 false ∷ row 10 false ∷ row 13 false ∷ []) ≡ 0 → ⊥)
+          → firstOf (row 1 p ∷ row 3 q ∷ row 11 b ∷ row 7 c ∷ row 8 false ∷ row 9 false ∷ row 10 false ∷ row 13 false ∷ [])
           ≡ firstOf (row 1 p ∷ row 3 q ∷ row 11 b ∷ row 7 c ∷ row 8 (lengthRefused m delivered || lengthRefused m received)
-          ∷ row 9 (criticalRefused m x) ∷ row 10 (readingRefused delivered || readingRefused received) ∷ [])
+          ∷ row 9 (criticalRefused m x) ∷ row 10 (readingRefused delivered || readingRefused received) ∷ row 13 (firstLost delivered || firstLost received) ∷ [])
       by true q b c h = refl
       by false true b c h = refl
       by false false true c h = refl

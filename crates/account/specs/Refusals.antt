@@ -6,7 +6,7 @@ use Prim.Native.Nat.{ℕ, _+_}
 use lib.Dec.{ltb}
 use Rattle.calendar.specs.Calendar.{lastMonth}
 use Rattle.hours.specs.CriticalDays.{criticalRefused}
-use Rattle.registers.specs.Registers.{lengthRefused, readingRefused}
+use Rattle.registers.specs.Registers.{lengthRefused, readingRefused, firstLost}
 use Rattle.charges.specs.Charges.{carriedLimit, standingLimit}
 use Rattle.billing.specs.Billing.{amountsOf}
 use Rattle.tariff.specs.declared.Terms.{Terms}
@@ -51,14 +51,15 @@ cantArise a =
 unfoldable pub unusable : Account → Bool
 unusable a = isClosed (a .stage) || cantArise a
 
--- The number that each call is given: the table's first row that applies. Rows 8 to 10 of a billing: "either register of the wrong
--- length", refused critical days, a reading above its limit in either.
+-- The number that each call is given: the table's first row that applies.
 unfoldable pub openingNumber : Account → Terms → PriceList → ℕ → ℕ
 openingNumber a t l m = openingRow (isOpen (a .stage)) (unusable a) t l m
 
 unfoldable pub repricingNumber : Account → PriceList → ℕ
 repricingNumber a l = repricingRow (isFresh (a .stage)) (unusable a) l
 
+-- Rows 8, 9, 10 and 13 of a billing: "either register of the wrong length", refused critical days, "a reading above 1,000,000" in either, and
+-- (02 No. 4) "a register whose first reading is lost", either of the two.
 unfoldable pub billingNumber : Account → ℕ → List ℕ → List ℕ → ℕ → ℕ
 billingNumber a m delivered received x =
     billingRow (isFresh (a .stage)) (unusable a) (a .next) m
@@ -66,6 +67,7 @@ billingNumber a m delivered received x =
       wronglength = lengthRefused m delivered || lengthRefused m received;
       wrongdays = criticalRefused m x;
       abovelimit = readingRefused delivered || readingRefused received;
+      firstlost = firstLost delivered || firstLost received;
     })
 
 unfoldable pub closingNumber : Account → ℕ

@@ -16,6 +16,7 @@ faultsFrom delivered received wrongdays =
       wronglength = delivered .wronglength || received .wronglength;
       wrongdays = wrongdays;
       abovelimit = delivered .abovelimit || received .abovelimit;
+      firstlost = delivered .firstlost || received .firstlost;
     }
 
 -- The answer to an accepted billing, from the tallies of delivered and received.

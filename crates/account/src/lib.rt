@@ -140,10 +140,12 @@ fn faults_of(delivered: Tally, received: Tally, wrongdays: bool) -> Faults
 {
     let wronglength = either(delivered.wronglength, received.wronglength);
     let abovelimit = either(delivered.abovelimit, received.abovelimit);
+    let firstlost = either(delivered.firstlost, received.firstlost);
     Faults {
         wronglength,
         wrongdays,
         abovelimit,
+        firstlost,
     }
 }
 
@@ -340,6 +342,7 @@ impl Account {
             wronglength: false,
             wrongdays: false,
             abovelimit: false,
+            firstlost: false,
         };
         let early = refusals::billing_row(fresh, unusable, self.next, month, none);
         if early != 0 {

@@ -55,7 +55,8 @@ allPeriods f xs = billTotal Critical f xs + billTotal OnPeak f xs + billTotal Of
 abbrev pub forfeitedTotal : Period → List Answer → ℕ
 forfeitedTotal p xs = totalBy (λ x. amountOf p (x .bill .forfeited) + amountOf p (x .amounts .forfeited)) xs
 
--- Step 2 on the registers of one call on an account: what was delivered, and what was received and so exported.
+-- Step 2 on the registers of one call on an account, by 02 No. 4 "from the filled readings": what was delivered, and what was received and so
+-- exported.
 abbrev pub deliveredBy : Period → Account → Call → ℕ
 deliveredBy p a (opening t l m) = 0
 deliveredBy p a (repricing l) = 0

@@ -23,7 +23,7 @@ use Rattle.kozempil.specs.declared.Counts.{Counts}
 
 -- Our rule: the layout of calls, answers and accounts has a version, which rises when a place, a code or a number is added or changed.
 abbrev pub layoutVersion : ℕ
-layoutVersion = 1
+layoutVersion = 2
 
 -- Stages as numbers.
 abbrev pub stageCode : Stage → ℕ

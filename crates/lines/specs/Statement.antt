@@ -117,7 +117,8 @@ withCritical x s =
 unfoldable pub criticalRead : List ℕ → State → Outcome
 criticalRead v s = cond (isUnreadable v) (fault s) (outcome [] (withCritical (getD v 0 0) s))
 
--- "any number of runs (count, delivered, received)": so many more readings of each register, in all at most 2,976.
+-- "any number of runs (count, delivered, received)": so many more readings of each register, in all at most 2,976. A lost one (02 No. 4) has
+-- its mark for delivered or received; as a count the mark is past 2,976.
 abbrev pub runLimit : ℕ
 runLimit = 2976
 

@@ -1,6 +1,7 @@
--- Document 01, "When the office declines": the rows of each call, in the order in which they are asked. fresh, opened and unusable say
--- what the account is, and next is its next month; t are terms, l is a price list, m a month; f says which of rows 8, 9 and 10 apply. The words of the rows: 1 not open, 2 open already, 3 closed, 4 price list, 5 capacity, 6 no bridge, 7 month, 8 register
--- length, 9 critical days, 10 reading, 11 book full.
+-- Document 01, "When the office declines", and row 13 of 02 No. 4: the rows of each call, in the order in which they are asked. fresh, opened
+-- and unusable say what the account is, and next is its next month; t are terms, l is a price list, m a month; f says which of rows 8, 9, 10
+-- and 13 apply. The words of the rows: 1 not open, 2 open already, 3 closed, 4 price list, 5 capacity, 6 no bridge, 7 month, 8 register length,
+-- 9 critical days, 10 reading, 11 book full, and ours: 13 first reading lost.
 use mathlib.Core.Bool.{Bool, false, cond, not, _||_}
 use mathlib.Core.List.{List, [], _∷_, _++_}
 use Prim.Native.Nat.{ℕ}
@@ -43,7 +44,8 @@ openingRow opened unusable t l m = firstOf (row 2 opened ∷ row 3 unusable ∷ 
 unfoldable pub repricingRow : Bool → Bool → PriceList → ℕ
 repricingRow fresh unusable l = firstOf (row 1 fresh ∷ row 3 unusable ∷ row 4 (pricesRefused l) ∷ [])
 
--- Billing: rows 1, 3, 11 ("billing when December 2099 has been billed"), 7 ("billing a month other than the next"), 8, 9, 10.
+-- Billing: rows 1, 3, 11 ("billing when December 2099 has been billed"), 7 ("billing a month other than the next"), 8, 9, 10, and
+-- 13 (02 No. 4: "after 10").
 unfoldable pub billingRow : Bool → Bool → ℕ → ℕ → Faults → ℕ
 billingRow fresh unusable next m f =
     firstOf
@@ -54,6 +56,7 @@ billingRow fresh unusable next m f =
     ∷ row 8 (f .wronglength)
     ∷ row 9 (f .wrongdays)
     ∷ row 10 (f .abovelimit)
+    ∷ row 13 (f .firstlost)
     ∷ [])
 
 -- Closing: rows 1, 3.

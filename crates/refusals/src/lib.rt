@@ -1,14 +1,15 @@
-// The table of refusals of document 01: the number that each call is given, or 0.
+// The table of refusals of document 01, with row 13 of 02 No. 4: the number that each call is given, or 0.
 ghost use mathlib.Core.Path.{_≡_};
 ghost use Rattle.refusals.specs.Table.{firstOf, contentsRows, openingRow, repricingRow, billingRow, closingRow};
 use tariff::PriceList;
 use tariff::Terms;
 
-// What is wrong with the registers and the critical days of a billing: whether rows 8, 9 and 10 apply.
+// What is wrong with the registers and the critical days of a billing: whether rows 8, 9, 10 and 13 apply.
 pub struct Faults {
     pub wronglength: bool,
     pub wrongdays: bool,
     pub abovelimit: bool,
+    pub firstlost: bool,
 }
 
 // What an account holds: the rows of an opening between 3 and 7.
@@ -82,5 +83,8 @@ pub fn billing_row(fresh: bool, unusable: bool, next: u32, month: u32, faults: F
     if faults.wrongdays {
         return 9;
     }
-    if faults.abovelimit { 10 } else { 0 }
+    if faults.abovelimit {
+        return 10;
+    }
+    if faults.firstlost { 13 } else { 0 }
 }

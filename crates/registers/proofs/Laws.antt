@@ -1,13 +1,13 @@
 -- What callers know of the sums, the demand and the limit of readings: they cite these laws and `Totals`, and open no definition.
 use mathlib.Core.Path.{_≡_, refl, ap, _∙_, sym}
-use mathlib.Core.Bool.{Bool, true, false, cond, _||_}
+use mathlib.Core.Bool.{Bool, true, false, cond, not, _&&_, _||_}
 use mathlib.Core.List.{List}
 use mathlib.Core.Logic.{⊎-elim}
 use Prim.Native.Nat.{ℕ, zero, suc, _+_, _*_, _≤_, _<_, max}
 use native.Mathlib.Nat.{le-of-suc-le-suc, eq-or-lt-of-le}
 use native.Mathlib.Numerals.{add-one}
 use native.Mathlib.Omega.{arith}
-use borrow.Author.Tests.{eq-eqb, ne-eqb, ltb-false, leb-true, leb-false}
+use borrow.Author.Tests.{eq-eqb, ne-eqb, le-ltb, ltb-false, leb-true, leb-false}
 use lib.Dec.{eqb, leb, ltb}
 use lib.ListN.{length, getD, List·getD-eq-default}
 use Rattle.calendar.specs.Calendar.{daysIn, dayLength, readingsThrough, monthLength}
@@ -15,12 +15,37 @@ use Rattle.calendar.proofs.Booleans.{or-neither}
 use Rattle.calendar.proofs.Laws.{through-next, monthLength-is, monthLength-le}
 use Rattle.hours.specs.Hours.{isPeak, periodOf, byPeriod}
 use Rattle.registers.specs.declared.Tally.{Tally}
-use Rattle.registers.specs.Registers.{reading, daySum, daysSum, sumOf, dayPeak, daysPeak, demandPower, readingLimit, monthLimit, someAbove, readingRefused, lengthRefused, tallyOf}
+use Rattle.registers.specs.Counting.{countsAfter}
+use Rattle.registers.specs.Registers.{reading, isLost, lastKnown, countsAs, daySum, daysSum, sumOf, dayPeak, daysPeak, demandPower}
+use Rattle.registers.specs.Registers.{readingLimit, monthLimit, someAbove, readingRefused, firstLost, lengthRefused, tallyOf}
 
--- A reading is what stands at its place.
-pub reading-is : (r : List ℕ) (i : ℕ) → reading r i ≡ getD r i 0
-unfolding reading
-reading-is r i = refl
+-- What a reading counts as, from the last one before it that isn't lost.
+pub known-none : (r : List ℕ) → lastKnown r 0 ≡ 0
+unfolding lastKnown
+known-none r = refl
+
+pub known-more : (r : List ℕ) (i : ℕ) → lastKnown r (i + 1) ≡ countsAs r i
+unfolding lastKnown countsAs
+known-more r i = simp add-one
+
+pub counts-as : (r : List ℕ) (i : ℕ) {last : ℕ} → last ≡ lastKnown r i → countsAfter last (getD r i 0) ≡ countsAs r i
+unfolding countsAfter countsAs isLost reading
+counts-as r i e = rw e
+
+-- A bound of all that stands in a register bounds what its readings count as.
+cond-le : (b : Bool) (v w bound : ℕ) → v ≤ bound → w ≤ bound → cond b v w ≤ bound
+cond-le true v w bound h k = h
+cond-le false v w bound h k = k
+
+module _ (r : List ℕ) (bound : ℕ) (within : (i : ℕ) → getD r i 0 ≤ bound) where
+  known-le : (i : ℕ) → lastKnown r i ≤ bound
+  unfolding lastKnown reading
+  known-le zero = omega arith
+  known-le (suc i) = cond-le (isLost r i) (lastKnown r i) (getD r i 0) bound (known-le i) (within i)
+
+  pub counts-le : (i : ℕ) → countsAs r i ≤ bound
+  unfolding countsAs reading
+  counts-le i = cond-le (isLost r i) (lastKnown r i) (getD r i 0) bound (known-le i) (within i)
 
 module _ (schedule : List ℕ) (m x : ℕ) (r : List ℕ) where
   -- Each reading adds to the sum of its own period.
@@ -29,7 +54,7 @@ module _ (schedule : List ℕ) (m x : ℕ) (r : List ℕ) where
   sum-none p n = refl
 
   pub sum-more : (p n j : ℕ) →
-      daySum schedule m x r p n (j + 1) ≡ daySum schedule m x r p n j + cond (eqb (periodOf schedule m x (n + 1) j) p) (reading r (readingsThrough m n + j)) 0
+      daySum schedule m x r p n (j + 1) ≡ daySum schedule m x r p n j + cond (eqb (periodOf schedule m x (n + 1) j) p) (countsAs r (readingsThrough m n + j)) 0
   unfolding daySum
   sum-more p n j = simp add-one
 
@@ -49,7 +74,7 @@ module _ (schedule : List ℕ) (m x : ℕ) (r : List ℕ) where
 
   pub peak-more : (n j : ℕ) →
       dayPeak schedule m x r n (j + 1)
-      ≡ max (dayPeak schedule m x r n j) (cond (isPeak (periodOf schedule m x (n + 1) j)) (reading r (readingsThrough m n + j)) 0)
+      ≡ max (dayPeak schedule m x r n j) (cond (isPeak (periodOf schedule m x (n + 1) j)) (countsAs r (readingsThrough m n + j)) 0)
   unfolding dayPeak
   peak-more n j = simp add-one
 
@@ -61,25 +86,39 @@ module _ (schedule : List ℕ) (m x : ℕ) (r : List ℕ) where
   unfolding daysPeak
   days-peak-more n = simp add-one
 
--- One reading more is above the limit, or one before it.
+-- Where none of the first readings is above the limit, the last of them that isn't lost is not.
+known-within : (r : List ℕ) (i : ℕ) → someAbove r i ≡ false → lastKnown r i ≤ readingLimit
+unfolding someAbove lastKnown
+known-within r zero e = omega arith
+known-within r (suc i) e =
+    let (before, here) = or-neither (someAbove r i) (not (isLost r i) && ltb readingLimit (reading r i)) e in
+    by (isLost r i) (lastKnown r i) (reading r i) (known-within r i before) here
+  where
+    by : (b : Bool) (v w : ℕ) → v ≤ readingLimit → (not b && ltb readingLimit w) ≡ false → cond b v w ≤ readingLimit
+    by true v w h k = h
+    by false v w h k = ltb-false _ _ k
+
+-- One reading more is above the limit, or one before it. What a lost reading counts as makes no difference: it stands before it.
 pub above-none : (r : List ℕ) → someAbove r 0 ≡ false
 unfolding someAbove
 above-none r = refl
 
-pub above-more : (r : List ℕ) (i : ℕ) → someAbove r (i + 1) ≡ (someAbove r i || ltb readingLimit (reading r i))
-unfolding someAbove
-above-more r i = simp add-one
+pub above-more : (r : List ℕ) (i : ℕ) → someAbove r (i + 1) ≡ (someAbove r i || ltb readingLimit (countsAs r i))
+unfolding someAbove countsAs
+above-more r i = simp add-one (by (isLost r i) (someAbove r i) (lastKnown r i) (reading r i) (known-within r i))
+  where
+    by : (b s : Bool) (v w : ℕ) → (s ≡ false → v ≤ readingLimit)
+        → (s || (not b && ltb readingLimit w)) ≡ (s || ltb readingLimit (cond b v w))
+    by true true v w h = refl
+    by true false v w h = sym (le-ltb _ _ (h refl))
+    by false s v w h = refl
 
 -- A sum has at most the bound of a reading for each reading.
-part-le : (b : Bool) (v w : ℕ) → v ≤ w → cond b v 0 ≤ w
-part-le true v w h = h
-part-le false v w h = omega arith
-
-module _ (schedule : List ℕ) (m x : ℕ) (r : List ℕ) (bound : ℕ) (within : (i : ℕ) → reading r i ≤ bound) where
+module _ (schedule : List ℕ) (m x : ℕ) (r : List ℕ) (bound : ℕ) (within : (i : ℕ) → countsAs r i ≤ bound) where
   pub sum-le : (p n j : ℕ) → daySum schedule m x r p n j ≤ j * bound
   unfolding daySum
   sum-le p n zero = omega arith
-  sum-le p n (suc j) = omega (arith, sum-le p n j, part-le (eqb (periodOf schedule m x (suc n) j) p) (reading r (readingsThrough m n + j)) bound (within _))
+  sum-le p n (suc j) = omega (arith, sum-le p n j, cond-le (eqb (periodOf schedule m x (suc n) j) p) (countsAs r (readingsThrough m n + j)) 0 bound (within _) (omega arith))
 
   pub days-sum-le : (p n : ℕ) → daysSum schedule m x r p n ≤ readingsThrough m n * bound
   unfolding daysSum
@@ -96,22 +135,21 @@ unfolding lengthRefused
 right-length m r e h = rw (eq-eqb (length r) (monthLength m) (h ∙ e))
 
 -- Where no reading is refused, each is within the limit: those past the register's end count 0.
-within-first : (r : List ℕ) (n i : ℕ) → someAbove r n ≡ false → i < n → reading r i ≤ readingLimit
-unfolding someAbove
+within-first : (r : List ℕ) (n i : ℕ) → someAbove r n ≡ false → i < n → countsAs r i ≤ readingLimit
+unfolding someAbove lastKnown countsAs
 within-first r zero i e h = absurd (omega arith)
 within-first r (suc n) i e h =
-    let both : (someAbove r n ≡ false) × (ltb readingLimit (reading r n) ≡ false) = or-neither (someAbove r n) (ltb readingLimit (reading r n)) e in
     ⊎-elim
-    (λ same. rw same (ltb-false _ _ (both .1)))
-    (λ less. within-first r n i (both .0) less)
+    (λ same. rw same (known-within r (suc n) e))
+    (λ less. within-first r n i (or-neither (someAbove r n) _ e .0) less)
     (eq-or-lt-of-le (le-of-suc-le-suc h))
 
-pub readings-within : (r : List ℕ) → readingRefused r ≡ false → (i : ℕ) → reading r i ≤ readingLimit
-unfolding readingRefused
+pub readings-within : (r : List ℕ) → readingRefused r ≡ false → (i : ℕ) → countsAs r i ≤ readingLimit
+unfolding readingRefused countsAs isLost reading
 readings-within r e i = by (leb (length r) i) refl
   where
-    by : (b : Bool) → leb (length r) i ≡ b → reading r i ≤ readingLimit
-    by true past = rw (reading-is r i, List·getD-eq-default r 0 (leb-true _ _ past)) (omega arith)
+    by : (b : Bool) → leb (length r) i ≡ b → countsAs r i ≤ readingLimit
+    by true past = rw (List·getD-eq-default r 0 (leb-true _ _ past)) (omega arith)
     by false reached = within-first r (length r) i e (leb-false _ _ reached)
 
 -- So each sum of a month's register is at most what one comes to (for the four together see `Totals`).
@@ -121,11 +159,11 @@ sum-within schedule m x r e p =
     omega (arith, days-sum-le schedule m x r readingLimit (readings-within r e) p (daysIn m), monthLength-is m, monthLength-le m)
 
 -- The demand's power has at most four times the bound of a reading.
-module _ (schedule : List ℕ) (m x : ℕ) (r : List ℕ) (bound : ℕ) (within : (i : ℕ) → reading r i ≤ bound) where
+module _ (schedule : List ℕ) (m x : ℕ) (r : List ℕ) (bound : ℕ) (within : (i : ℕ) → countsAs r i ≤ bound) where
   day-peak-le : (n j : ℕ) → dayPeak schedule m x r n j ≤ bound
   unfolding dayPeak
   day-peak-le n zero = omega arith
-  day-peak-le n (suc j) = omega (arith, day-peak-le n j, part-le (isPeak (periodOf schedule m x (suc n) j)) (reading r (readingsThrough m n + j)) bound (within _))
+  day-peak-le n (suc j) = omega (arith, day-peak-le n j, cond-le (isPeak (periodOf schedule m x (suc n) j)) (countsAs r (readingsThrough m n + j)) 0 bound (within _) (omega arith))
 
   days-peak-le : (n : ℕ) → daysPeak schedule m x r n ≤ bound
   unfolding daysPeak
@@ -155,6 +193,7 @@ module _ (schedule : List ℕ) (m x : ℕ) (r : List ℕ) where
       (record {
         wronglength = false;
         abovelimit = readingRefused r;
+        firstlost = firstLost r;
         sums = byPeriod (sumOf schedule m x r);
         power = demandPower schedule m x r;
       })

@@ -1,4 +1,5 @@
 mod Counting
+pub mod Gaps
 pub mod Laws
 pub mod Totals
 pub mod View

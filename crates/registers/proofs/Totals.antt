@@ -9,7 +9,7 @@ use lib.Dec.{eqb}
 use Rattle.calendar.specs.Calendar.{daysIn, dayLength, readingsThrough}
 use Rattle.calendar.proofs.Laws.{through-next, monthLength-is, monthLength-le}
 use Rattle.hours.specs.Hours.{critical, onPeak, offPeak, discount, periodOf}
-use Rattle.registers.specs.Registers.{reading, daySum, daysSum, sumOf, readingLimit, monthLimit, readingRefused}
+use Rattle.registers.specs.Registers.{countsAs, daySum, daysSum, sumOf, readingLimit, monthLimit, readingRefused}
 use Rattle.registers.proofs.Laws.{readings-within}
 
 -- The sum over the four periods of what each has.
@@ -25,12 +25,12 @@ one-period (suc (suc (suc (suc q)))) v bound h =
     let n : ℕ = suc (suc (suc (suc q))) in
     rw (ne-eqb n 0 (omega arith), ne-eqb n 1 (omega arith), ne-eqb n 2 (omega arith), ne-eqb n 3 (omega arith)) (omega arith)
 
-module _ (schedule : List ℕ) (m x : ℕ) (r : List ℕ) (bound : ℕ) (within : (i : ℕ) → reading r i ≤ bound) where
+module _ (schedule : List ℕ) (m x : ℕ) (r : List ℕ) (bound : ℕ) (within : (i : ℕ) → countsAs r i ≤ bound) where
   day-total-le : (n j : ℕ) → fourOf (λ p. daySum schedule m x r p n j) ≤ j * bound
   unfolding daySum
   day-total-le n zero = omega arith
   day-total-le n (suc j) =
-      omega (arith, day-total-le n j, one-period (periodOf schedule m x (suc n) j) (reading r (readingsThrough m n + j)) bound (within _))
+      omega (arith, day-total-le n j, one-period (periodOf schedule m x (suc n) j) (countsAs r (readingsThrough m n + j)) bound (within _))
 
   days-total-le : (n : ℕ) → fourOf (λ p. daysSum schedule m x r p n) ≤ readingsThrough m n * bound
   unfolding daysSum

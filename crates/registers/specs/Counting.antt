@@ -8,7 +8,7 @@ use Rattle.calendar.specs.Calendar.{quarterBy, readingsThrough}
 use Rattle.calendar.specs.declared.Clock.{Clock}
 use Rattle.hours.specs.Hours.{critical, onPeak, offPeak, discount, isPeak}
 use Rattle.registers.specs.declared.Count.{Count}
-use Rattle.registers.specs.Registers.{daySum, daysSum, dayPeak, daysPeak, readingLimit, someAbove}
+use Rattle.registers.specs.Registers.{lostMark, lastKnown, daySum, daysSum, dayPeak, daysPeak, readingLimit, someAbove}
 
 -- Another reading fits each sum.
 pub record Room (a : Count) : Type 0 where
@@ -17,7 +17,11 @@ pub record Room (a : Count) : Type 0 where
   pub offpeak : a .offpeak < 2 ^ 63
   pub discount : a .discount < 2 ^ 63
 
--- The count b is a with one reading v more, of period p.
+-- What a reading v counts as, where last is the last one before it that isn't lost.
+unfoldable pub countsAfter : ℕ → ℕ → ℕ
+countsAfter last v = cond (eqb v lostMark) last v
+
+-- The count b is a with one reading more, which counts as v, of period p.
 pub record Added (a : Count) (p v : ℕ) (b : Count) : Type 0 where
   pub critical : b .critical ≡ a .critical + cond (eqb p critical) v 0
   pub onpeak : b .onpeak ≡ a .onpeak + cond (eqb p onPeak) v 0
@@ -25,6 +29,7 @@ pub record Added (a : Count) (p v : ℕ) (b : Count) : Type 0 where
   pub discount : b .discount ≡ a .discount + cond (eqb p discount) v 0
   pub peak : b .peak ≡ max (a .peak) (cond (isPeak p) v 0)
   pub above : b .above ≡ (a .above || ltb readingLimit v)
+  pub last : b .last ≡ v
 
 -- The count a is that of the first n days.
 pub record Counted (schedule : List ℕ) (m x : ℕ) (r : List ℕ) (n : ℕ) (a : Count) : Type 0 where
@@ -34,6 +39,7 @@ pub record Counted (schedule : List ℕ) (m x : ℕ) (r : List ℕ) (n : ℕ) (a
   pub discount : a .discount ≡ daysSum schedule m x r discount n
   pub peak : a .peak ≡ daysPeak schedule m x r n
   pub above : a .above ≡ someAbove r (readingsThrough m n)
+  pub last : a .last ≡ lastKnown r (readingsThrough m n)
 
 -- The count a is that of the first n days and of the first j readings of the next.
 pub record DayCounted (schedule : List ℕ) (m x : ℕ) (r : List ℕ) (n j : ℕ) (a : Count) : Type 0 where
@@ -43,6 +49,7 @@ pub record DayCounted (schedule : List ℕ) (m x : ℕ) (r : List ℕ) (n j : �
   pub discount : a .discount ≡ daysSum schedule m x r discount n + daySum schedule m x r discount n j
   pub peak : a .peak ≡ max (daysPeak schedule m x r n) (dayPeak schedule m x r n j)
   pub above : a .above ≡ someAbove r (readingsThrough m n + j)
+  pub last : a .last ≡ lastKnown r (readingsThrough m n + j)
 
 -- From reading i of a day up to reading j, the quarters follow each other.
 pub record Follows (k : Clock) (i j : ℕ) : Type 0 where

@@ -29,6 +29,7 @@ viewOf delivered received m d k =
     (record { register = cond (eqb k 0) delivered received; start = readingsThrough m (d - 1); count = dayLength m d })
 
 -- "not a copy": what is handed back, v, lies in the register's memory, 4 bytes for each reading before it, and reads as that part.
+-- 02 No. 4: "the day view shows the mark", as the register itself does.
 pub record IsPart (p : Part) (v : RefT (List ℕ)) : Type 0 where
   pub place : ptr v ≡ (ptr (p .register) .0, p .start * 4 + ptr (p .register) .1)
   pub readings : now v ≡ take (p .count) (drop (p .start) (now (p .register)))

@@ -1,6 +1,7 @@
 -- Document 01, "Billing" and the table of refusals: what a bill reads from one register, which is step 2, the demand of step 6, and
--- refusals 8 and 10. m is a month, x the number that names its critical days, r the readings of a register, p a period.
-use mathlib.Core.Bool.{Bool, true, false, cond, not, _||_}
+-- refusals 8 and 10; and 02 No. 4, lost readings and refusal 13. m is a month, x the number that names its critical days, r the readings of a
+-- register, p a period.
+use mathlib.Core.Bool.{Bool, true, false, cond, not, _&&_, _||_}
 use mathlib.Core.List.{List}
 use Prim.Native.Nat.{ℕ, zero, suc, _+_, _*_, max}
 use lib.Dec.{eqb, ltb}
@@ -9,9 +10,29 @@ use Rattle.calendar.specs.Calendar.{daysIn, dayLength, readingsThrough, monthLe
 use Rattle.hours.specs.Hours.{isPeak, periodOf, byPeriod}
 use Rattle.registers.specs.declared.Tally.{Tally}
 
--- What reading i of a register (0 is the first) counts as: itself. Past the register's end it is 0.
+-- Reading i of a register (0 is the first), as it stands there. Past the register's end it is 0.
 unfoldable pub reading : List ℕ → ℕ → ℕ
 reading r i = getD r i 0
+
+-- 02 No. 4: "The value 4,294,967,295 in a register marks a lost reading." "Nothing but a reading may be lost": only the definitions
+-- below ask for it.
+abbrev pub lostMark : ℕ
+lostMark = 4294967295
+
+-- Whether reading i is lost.
+unfoldable pub isLost : List ℕ → ℕ → Bool
+isLost r i = eqb (reading r i) lostMark
+
+-- Of the first i readings, the last that isn't lost. Our reading: 0 if there is none, which refusal 13 sees to.
+unfoldable pub lastKnown : List ℕ → ℕ → ℕ
+lastKnown r zero = 0
+lastKnown r (suc i) = cond (isLost r i) (lastKnown r i) (reading r i)
+
+-- What reading i counts as: itself or, where it is lost, "the last reading before it in that register which isn't lost". "Sums, the demand
+-- reading and the exported and delivered totals of the ledger are all taken from" this. r is one month's register, so a gap is filled across
+-- days and never across months (our reading). The theorems `gap-filled` and `filled-alike` say the same of whole gaps and registers.
+unfoldable pub countsAs : List ℕ → ℕ → ℕ
+countsAs r i = cond (isLost r i) (lastKnown r i) (reading r i)
 
 -- The sums and the largest reading go day by day. n days come before the day that is meant, so that it is day n + 1; j is the number
 -- of its readings that have been passed. schedule has the hours.
@@ -19,7 +40,7 @@ module _ (schedule : List ℕ) (m x : ℕ) (r : List ℕ) where
   -- Step 2, for one day: the sum of those of its first j readings that are in period p.
   unfoldable pub daySum : ℕ → ℕ → ℕ → ℕ
   daySum p n zero = 0
-  daySum p n (suc j) = daySum p n j + cond (eqb (periodOf schedule m x (suc n) j) p) (reading r (readingsThrough m n + j)) 0
+  daySum p n (suc j) = daySum p n j + cond (eqb (periodOf schedule m x (suc n) j) p) (countsAs r (readingsThrough m n + j)) 0
 
   -- Step 2, for the first n days.
   unfoldable pub daysSum : ℕ → ℕ → ℕ
@@ -33,7 +54,7 @@ module _ (schedule : List ℕ) (m x : ℕ) (r : List ℕ) where
   -- Step 6, for one day: the largest of those of its first j readings that are in periods 0 and 1, or 0.
   unfoldable pub dayPeak : ℕ → ℕ → ℕ
   dayPeak n zero = 0
-  dayPeak n (suc j) = max (dayPeak n j) (cond (isPeak (periodOf schedule m x (suc n) j)) (reading r (readingsThrough m n + j)) 0)
+  dayPeak n (suc j) = max (dayPeak n j) (cond (isPeak (periodOf schedule m x (suc n) j)) (countsAs r (readingsThrough m n + j)) 0)
 
   -- Step 6, for the first n days.
   unfoldable pub daysPeak : ℕ → ℕ
@@ -53,28 +74,33 @@ readingLimit = 1000000
 abbrev pub monthLimit : ℕ
 monthLimit = mostReadings * readingLimit
 
--- Whether one of the first i readings is above the limit.
+-- Whether one of the first i readings is above the limit. 02 No. 4: "Number 10 passes over the mark."
 unfoldable pub someAbove : List ℕ → ℕ → Bool
 someAbove r zero = false
-someAbove r (suc i) = someAbove r i || ltb readingLimit (reading r i)
+someAbove r (suc i) = someAbove r i || (not (isLost r i) && ltb readingLimit (reading r i))
 
 -- Refusal 10, of one register: "a reading above 1,000,000".
 unfoldable pub readingRefused : List ℕ → Bool
 readingRefused r = someAbove r (length r)
 
+-- Refusal 13, of one register: 02 No. 4, "a register whose first reading is lost".
+unfoldable pub firstLost : List ℕ → Bool
+firstLost r = isLost r 0
+
 -- Refusal 8, of one register: "of the wrong length".
 unfoldable pub lengthRefused : ℕ → List ℕ → Bool
 lengthRefused m r = not (eqb (length r) (monthLength m))
 
--- All that a bill reads from one register: refusals 8 and 10, the sums by period and, of the delivered one, the power of the demand line. A
--- register of the wrong length has no sums.
+-- All that a bill reads from one register: refusals 8, 10 and 13, the sums by period and, of the delivered one, the power of the demand line. Of a
+-- register of the wrong length nothing else is read: row 8 comes before the others.
 unfoldable pub tallyOf : List ℕ → ℕ → ℕ → List ℕ → Tally
 tallyOf schedule m x r =
     cond (lengthRefused m r)
-    (record { wronglength = true; abovelimit = false; sums = byPeriod (λ p. 0); power = 0 })
+    (record { wronglength = true; abovelimit = false; firstlost = false; sums = byPeriod (λ p. 0); power = 0 })
     (record {
       wronglength = false;
       abovelimit = readingRefused r;
+      firstlost = firstLost r;
       sums = byPeriod (sumOf schedule m x r);
       power = demandPower schedule m x r;
     })

@@ -6,28 +6,33 @@ ghost use lib.Dec.{eqb, ltb};
 ghost use lib.ListN.{length};
 ghost use Rattle.calendar.specs.Calendar.{daysIn, clockOf, dayLength, readingsThrough, monthLength};
 ghost use Rattle.hours.specs.Hours.{isPeak};
-ghost use Rattle.registers.specs.Registers.{readingLimit, tallyOf};
+ghost use Rattle.registers.specs.Registers.{readingLimit, firstLost, tallyOf};
 ghost use Rattle.registers.specs.DayView.{emptyView, viewOf, IsPart};
-ghost use Rattle.registers.specs.Counting.{Room, Added, Counted, DayCounted, Follows};
+ghost use Rattle.registers.specs.Counting.{Room, countsAfter, Added, Counted, DayCounted, Follows};
 use calendar::Clock;
 use hours::ByPeriod;
 
-// The largest reading that is accepted, in Wh.
+// The largest reading that is accepted, in Wh, beside the mark of a lost one.
 const READING_LIMIT: u32 = 1_000_000;
+
+// What a register holds in the place of a reading that is lost.
+const LOST: u32 = 4_294_967_295;
 
 // The most Wh that a month's register comes to.
 pub const MONTH_LIMIT: u64 = calendar::MOST_READINGS as u64 * READING_LIMIT as u64;
 
-// All that a bill reads from one register: whether its length is wrong or a reading above the limit, the sums by period, and
-// the power in W that the demand line prices.
+// All that a bill reads from one register: whether its length is wrong, a reading above the limit or the first one lost, the sums by
+// period, and the power in W that the demand line prices.
 pub struct Tally {
     pub wronglength: bool,
     pub abovelimit: bool,
+    pub firstlost: bool,
     pub sums: ByPeriod,
     pub power: u64,
 }
 
-// What the readings so far come to: sums by period, the largest in periods 0 and 1, and whether one is above the limit.
+// What the readings so far come to: sums by period, the largest in periods 0 and 1, whether one is above the limit, and the last one that
+// isn't lost, or 0.
 struct Count {
     critical: u64,
     onpeak: u64,
@@ -35,6 +40,24 @@ struct Count {
     discount: u64,
     peak: u64,
     above: bool,
+    last: u32,
+}
+
+// What a reading counts as after the last one that isn't lost.
+fn counts_after(last: u32, reading: u32) -> u32
+    ensures { λ r. ⌜ r ≡ countsAfter last reading ⌝ }
+{
+    if reading == LOST { last } else { reading }
+}
+
+// Whether a register's first reading is lost.
+fn first_lost(register: &[u32]) -> bool
+    ensures { λ r. ⌜ r ≡ firstLost (now (register .entry)) ⌝ }
+{
+    if register.len() == 0 {
+        return false;
+    }
+    register[0] == LOST
 }
 
 // The amount where the period is the one wanted, else 0.
@@ -74,14 +97,16 @@ fn some_above(before: bool, reading: u32) -> bool
 }
 
 impl Count {
-    // The count with one reading more. Most readings are off-peak or discount, and their runs are long: these tests come first.
+    // The count with one reading more. A lost one is asked for the limit as what it counts as, which was asked before: so the mark itself is
+    // passed over. Most readings are off-peak or discount, and their runs are long: these tests come first.
     fn add(self, period: u8, reading: u32) -> Count
         requires { ⌜ Room self ⌝ }
-        ensures { λ r. ⌜ Added self period reading r ⌝ }
+        ensures { λ r. ⌜ Added self period (countsAfter (self .last) reading) r ⌝ }
     {
-        let above = some_above(self.above, reading);
+        let counted = counts_after(self.last, reading);
+        let above = some_above(self.above, counted);
         if period == hours::OFF_PEAK {
-            let offpeak = self.offpeak + reading as u64;
+            let offpeak = self.offpeak + counted as u64;
             return Count {
                 critical: self.critical,
                 onpeak: self.onpeak,
@@ -89,10 +114,11 @@ impl Count {
                 discount: self.discount,
                 peak: self.peak,
                 above,
+                last: counted,
             };
         }
         if period == hours::DISCOUNT {
-            let discount = self.discount + reading as u64;
+            let discount = self.discount + counted as u64;
             return Count {
                 critical: self.critical,
                 onpeak: self.onpeak,
@@ -100,17 +126,19 @@ impl Count {
                 discount,
                 peak: self.peak,
                 above,
+                last: counted,
             };
         }
-        let critical = self.critical + in_period(period, hours::CRITICAL, reading);
-        let onpeak = self.onpeak + in_period(period, hours::ON_PEAK, reading);
+        let critical = self.critical + in_period(period, hours::CRITICAL, counted);
+        let onpeak = self.onpeak + in_period(period, hours::ON_PEAK, counted);
         Count {
             critical,
             onpeak,
             offpeak: self.offpeak,
             discount: self.discount,
-            peak: larger(self.peak, peak_reading(period, reading)),
+            peak: larger(self.peak, peak_reading(period, counted)),
             above,
+            last: counted,
         }
     }
 }
@@ -221,6 +249,7 @@ fn count_month(schedule: &[u8; 384], register: &[u32], month: u32, critical_days
         discount: 0,
         peak: 0,
         above: false,
+        last: 0,
     };
     let mut start = 0;
     let mut before = 0;
@@ -252,6 +281,7 @@ pub fn tally_of(schedule: &[u8; 384], register: &[u32], month: u32, critical_day
         return Tally {
             wronglength: true,
             abovelimit: false,
+            firstlost: false,
             sums: ByPeriod {
                 critical: 0,
                 onpeak: 0,
@@ -262,10 +292,12 @@ pub fn tally_of(schedule: &[u8; 384], register: &[u32], month: u32, critical_day
         };
     }
     let count = count_month(schedule, register, month, critical_days);
+    let firstlost = first_lost(register);
     let power = 4 * count.peak;
     Tally {
         wronglength: false,
         abovelimit: count.above,
+        firstlost,
         sums: ByPeriod {
             critical: count.critical,
             onpeak: count.onpeak,

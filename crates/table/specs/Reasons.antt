@@ -20,6 +20,7 @@ wrong =
     ∷ bytesOf "a critical day that the month doesn't have, or more than ten"
     ∷ bytesOf "a reading above 1,000,000 Wh"
     ∷ bytesOf "December 2099 was billed, and there is no month after it"
+    ∷ bytesOf "the first reading of a register is lost"
     ∷ bytesOf "a refusal that this program doesn't know"
     ∷ bytesOf "not a line that can stand there, or the input ends before it"
     ∷ []
@@ -37,26 +38,27 @@ toDo =
     ∷ bytesOf "add up the days again"
     ∷ bytesOf "correct the run"
     ∷ bytesOf "stop there"
+    ∷ bytesOf "give a reading there; only later ones are filled in"
     ∷ bytesOf "ask the office"
     ∷ bytesOf "correct the line and run the file again"
     ∷ []
 
 -- The row for any other number, the one for a stop, and how many there are.
 abbrev pub otherRow : ℕ
-otherRow = 10
+otherRow = 11
 
 abbrev pub stopRow : ℕ
-stopRow = 11
+stopRow = 12
 
 abbrev pub rowCount : ℕ
-rowCount = 12
+rowCount = 13
 
--- The rows of an opening's numbers 4 to 7, of a month's 1 and 7 to 11, and of a stop.
+-- The rows of an opening's numbers 4 to 7, of a month's 1, 7 to 11 and 13, and of a stop.
 unfoldable pub openingRow : ℕ → ℕ
 openingRow n = cond (leb 4 n && leb n 7) (n - 3) otherRow
 
 unfoldable pub monthRow : ℕ → ℕ
-monthRow n = cond (eqb n 1) 0 (cond (leb 7 n && leb n 11) (n - 2) otherRow)
+monthRow n = cond (eqb n 1) 0 (cond (leb 7 n && leb n 11) (n - 2) (cond (eqb n 13) 10 otherRow))
 
 unfoldable pub rowOf : ℕ → ℕ → ℕ
 rowOf kind n = cond (eqb kind stop) stopRow (cond (eqb kind opening) (openingRow n) (monthRow n))

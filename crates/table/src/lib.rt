@@ -34,10 +34,12 @@ const MONTH: u8 = b'b';
 
 const STOP: u8 = b'l';
 
-// The row of reasons for a number that has none, and for a stop.
-const OTHER_ROW: usize = 10;
+// The rows of reasons for a month's refusal 13, for a number that has none, and for a stop.
+const FIRST_LOST_ROW: usize = 10;
 
-const STOP_ROW: usize = 11;
+const OTHER_ROW: usize = 11;
+
+const STOP_ROW: usize = 12;
 
 // Where each template begins, and the last ends; and its first mark.
 const TEXT_BEGINS: [usize; 10] = [0, 16, 39, 58, 79, 290, 290, 300, 310, 332];
@@ -69,7 +71,7 @@ const WRONG_ALONE: usize = 1;
 const WITH_WHAT_TO_DO: usize = 2;
 
 // Where each row's "what is wrong" begins, and where it ends and "what to do" begins.
-const REASON_BEGINS: [usize; 25] = [
+const REASON_BEGINS: [usize; 27] = [
     0,
     28,
     89,
@@ -91,10 +93,12 @@ const REASON_BEGINS: [usize; 25] = [
     698,
     754,
     766,
-    806,
-    822,
-    882,
-    923,
+    805,
+    858,
+    898,
+    914,
+    974,
+    1015,
 ];
 
 // The next number of a line, and where the rest of the line begins.
@@ -412,6 +416,9 @@ fn row_of(kind: u8, number: u64) -> usize
     if number == 1 {
         return 0;
     }
+    if number == 13 {
+        return FIRST_LOST_ROW;
+    }
     if number < 7 {
         return OTHER_ROW;
     }
@@ -481,6 +488,7 @@ fn put_text(
         a critical day that the month doesn't have, or more than ten; add up the days again\
         a reading above 1,000,000 Wh; correct the run\
         December 2099 was billed, and there is no month after it; stop there\
+        the first reading of a register is lost; give a reading there; only later ones are filled in\
         a refusal that this program doesn't know; ask the office\
         not a line that can stand there, or the input ends before it; correct the line and run the file again";
     put_chosen(out, at, texts, rows, numbers, width, text, row, parts)

@@ -8,6 +8,7 @@ use harness::random::Random;
 use harness::reference::account::{Account, Answer, Assisted, Class, PriceList, Rider, Terms};
 use harness::reference::calendar::LAST_MONTH;
 use harness::reference::calls::opening;
+use harness::reference::gaps::LOST;
 use harness::reference::hours::register_length;
 use harness::reference::ledger::{Amounts, Call};
 use std::hint::black_box;
@@ -54,6 +55,28 @@ impl Month {
             number,
             delivered: register(),
             received: register(),
+        }
+    }
+
+    /// Gaps of 1 to 96 readings in both registers, the last one up to the end.
+    fn with_gaps(mut self) -> Month {
+        for register in [&mut self.delivered, &mut self.received] {
+            let all = register.len();
+            for start in (1..all).step_by(131) {
+                register[start..all.min(start + 1 + start % 96)].fill(LOST);
+            }
+            register[all - 20..].fill(LOST);
+        }
+        self
+    }
+
+    /// Both ways must give the same bill.
+    fn check(&self) {
+        let account = opened(self.number);
+        let proved = self.proved(&account_row(&account), &self.record());
+        for tally in [by_table as Tallying, by_stretch] {
+            let mut account = account;
+            assert!(self.plain(&mut account, tally) == proved);
         }
     }
 
@@ -106,7 +129,10 @@ fn opened(first_month: u32) -> Account {
 pub fn run() {
     println!("bills of 31 days: median of {ROUNDS} interleaved rounds of {BILLS} bills");
     for (name, number) in [("winter", 0), ("summer", 6)] {
-        one_month(name, &Month::new(&mut Random::new(1), number));
+        let month = || Month::new(&mut Random::new(1), number);
+        month().check();
+        month().with_gaps().check();
+        one_month(name, &month());
     }
     println!("lists of months: median of {LIST_ROUNDS} interleaved rounds, time of one month");
     let mut random = Random::new(2);
@@ -124,7 +150,6 @@ fn one_month(name: &str, month: &Month) {
     let record = month.record();
     let plain = |tally: Tallying| month.plain(&mut black_box(account), tally);
     let proved = || month.proved(black_box(&before), &record);
-    assert!(plain(by_table) == proved() && plain(by_stretch) == proved());
     let mut times = [Vec::new(), Vec::new(), Vec::new()];
     for _ in 0..ROUNDS {
         times[0].push(time(BILLS, proved));

@@ -1,18 +1,24 @@
 //! Lists at, below and above each limit of 01, each edge of a window, each half cent,
-//! and each order of refusals.
+//! each order of refusals, and each place of a gap.
 
 use crate::lists::List;
 use harness::reference::account::{Assisted, Class, PriceList, Rider, Terms};
 use harness::reference::calendar::{days_in_month, month_of_year, LAST_MONTH};
+use harness::reference::gaps::LOST;
 use harness::reference::hours::{first_reading, register_length};
 use harness::reference::ledger::Call;
 use harness::reference::refusal::{LARGEST_PRICE, LARGEST_READING};
+use std::ops::Range;
 
 // Months of 28, 29, 30 and 31 days.
 const FEBRUARY_2001: u32 = 13;
 const FEBRUARY_2004: u32 = 49;
 const JUNE_2001: u32 = 17;
 const JULY_2001: u32 = 18;
+
+// Months in which the clocks change, on day 11 and on day 4.
+const MARCH_2007: u32 = 86;
+const NOVEMBER_2007: u32 = 94;
 
 // A quarter of each period in winter, on a critical day and on another.
 const CRITICAL_DAY: u32 = 1;
@@ -26,12 +32,15 @@ const PLACES: [(u32, usize); 4] = [
 const CRITICAL_DAYS: u32 = 1;
 
 pub fn lists() -> Vec<List> {
-    let sets: [(&str, Vec<Vec<Call>>); 12] = [
+    let sets: [(&str, Vec<Vec<Call>>); 15] = [
         ("price lists", price_lists()),
         ("terms", terms()),
         ("months", months()),
         ("a full book", full_book()),
         ("register lengths", lengths()),
+        ("gaps", gaps()),
+        ("gaps beside large readings", gaps_beside_large()),
+        ("gaps at the end of a month", gaps_at_the_end()),
         ("clock changes", clock_changes()),
         ("critical days", critical_days()),
         ("readings", readings()),
@@ -93,6 +102,11 @@ struct Month {
     critical_days: u32,
 }
 
+/// Whether the delivered register has a gap, and the received one.
+type Lost = [bool; 2];
+
+const EACH_LOST: [Lost; 3] = [[true, false], [false, true], [true, true]];
+
 impl Month {
     fn new(number: u32) -> Month {
         Month {
@@ -118,6 +132,32 @@ impl Month {
 
     fn receive(mut self, (day, place): (u32, usize), wh: u32) -> Month {
         self.received[first_reading(self.number, day) + place] = wh;
+        self
+    }
+
+    /// No two readings of a register are equal.
+    fn rising(number: u32) -> Month {
+        (0..register_length(number)).fold(Month::new(number), |month, place| {
+            let wh = 200 * place as u32;
+            month.set(place, 300_000 + wh, 600_000 - wh)
+        })
+    }
+
+    /// The two readings of a place in the registers.
+    fn set(mut self, place: usize, delivered: u32, received: u32) -> Month {
+        self.delivered[place] = delivered;
+        self.received[place] = received;
+        self
+    }
+
+    /// Loses a part of some registers.
+    fn lose(mut self, [in_delivered, in_received]: Lost, gap: Range<usize>) -> Month {
+        if in_delivered {
+            self.delivered[gap.clone()].fill(LOST);
+        }
+        if in_received {
+            self.received[gap].fill(LOST);
+        }
         self
     }
 
@@ -282,6 +322,7 @@ fn full_book() -> Vec<Vec<Call>> {
                     right.clone().bill(),
                     short.bill(),
                     right.clone().critical(u32::MAX).bill(),
+                    right.clone().deliver((1, 0), LOST).bill(),
                     right.deliver(PLACES[0], LARGEST_READING + 1).bill(),
                 ]);
             }
@@ -332,6 +373,109 @@ fn lengths() -> Vec<Vec<Call>> {
             calls
         })
         .collect()
+}
+
+/// Each gap in the delivered register, in the received one and in both: among readings
+/// that all differ, and after the only one that isn't 0.
+fn gaps() -> Vec<Vec<Call>> {
+    let mut lists = Vec::new();
+    for month in [FEBRUARY_2001, JULY_2001, MARCH_2007, NOVEMBER_2007] {
+        for gap in gaps_of(month) {
+            for lost in EACH_LOST {
+                let single = Month::new(month).set(gap.start.saturating_sub(1), 5_000, 700);
+                for (terms, full) in [(HOME, Month::rising(month)), (BRIDGE, single)] {
+                    let full = full.critical(CRITICAL_GAPS).lose(lost, gap.clone());
+                    lists.push(vec![
+                        opening(terms, PRICES, month),
+                        full.bill(),
+                        Month::usual(month).bill(),
+                        Month::usual(month + 1).bill(),
+                    ]);
+                }
+            }
+        }
+    }
+    lists
+}
+
+// Days 4 and 12: in July a Wednesday and a Thursday, in November the day of 25 hours.
+const CRITICAL_GAPS: u32 = 0b1000_0000_1000;
+
+/// At the start, at the end and across midnight; the whole month, and all of it but the
+/// first reading; and over the edges of windows, on days that are critical, on a Saturday of
+/// summer, and where the clocks change.
+fn gaps_of(month: u32) -> Vec<Range<usize>> {
+    let all = register_length(month);
+    let second_day = first_reading(month, 2);
+    let mut gaps = vec![
+        0..1,
+        0..30,
+        0..all,
+        1..2,
+        1..all,
+        all - 1..all,
+        all - 30..all,
+        second_day - 3..second_day + 6,
+        second_day..second_day + 2 * 96,
+    ];
+    for day in [4, 7, 11, 12] {
+        let first = first_reading(month, day);
+        for edge in [2..10, 18..30, 48..60, 62..74, 66..78, 78..90] {
+            gaps.push(first + edge.start..first + edge.end);
+        }
+    }
+    gaps
+}
+
+/// A reading at or above the limit right before a gap, right after it and far from it, in
+/// its register and in the other.
+fn gaps_beside_large() -> Vec<Vec<Call>> {
+    let mut lists = Vec::new();
+    for (gap, places) in [
+        (0..3, [3, 4, 2_000]),
+        (1..4, [0, 4, 2_000]),
+        (300..303, [299, 303, 2_000]),
+    ] {
+        for place in places {
+            for wh in [LARGEST_READING, LARGEST_READING + 1, LOST - 1] {
+                for lost in EACH_LOST {
+                    let month = Month::new(FEBRUARY_2001).lose(lost, gap.clone());
+                    let [mut used, mut made] = [month.clone(), month];
+                    used.delivered[place] = wh;
+                    made.received[place] = wh;
+                    lists.push(vec![
+                        opening(HOME, PRICES, FEBRUARY_2001),
+                        used.bill(),
+                        made.bill(),
+                        Month::usual(FEBRUARY_2001).bill(),
+                    ]);
+                }
+            }
+        }
+    }
+    lists
+}
+
+/// A gap up to the end of a month; the next one begins with a lost reading, then with one
+/// that came.
+fn gaps_at_the_end() -> Vec<Vec<Call>> {
+    let mut lists = Vec::new();
+    for lost in EACH_LOST {
+        for lost_next in EACH_LOST {
+            let all = register_length(FEBRUARY_2001);
+            let month = Month::usual(FEBRUARY_2001).set(all - 6, 800, 90);
+            let next = Month::usual(FEBRUARY_2001 + 1);
+            lists.push(vec![
+                opening(HOME, PRICES, FEBRUARY_2001),
+                month.lose(lost, all - 5..all).bill(),
+                next.clone().lose(lost_next, 0..1).bill(),
+                next.clone().lose(lost_next, 0..6).bill(),
+                next.lose(lost_next, 1..6).bill(),
+                Month::usual(FEBRUARY_2001 + 2).bill(),
+            ]);
+        }
+    }
+    lists
 }
 
 /// Every March and November of the century: registers with and without the hour that is
@@ -413,12 +557,13 @@ fn readings() -> Vec<Vec<Call>> {
         LARGEST_READING - 1,
         LARGEST_READING,
         LARGEST_READING + 1,
-        u32::MAX,
+        LOST - 1,
+        LOST,
     ] {
         for place in [(1, 0), (1, 95), (15, 70), (28, 0), (28, 95)] {
             for month_with in [Month::deliver, Month::receive] {
                 calls.push(month_with(Month::new(month), place, wh).bill());
-                if wh <= LARGEST_READING {
+                if wh <= LARGEST_READING || (wh == LOST && place != (1, 0)) {
                     month += 1;
                 }
             }
@@ -435,8 +580,9 @@ fn faults() -> Vec<Vec<Call>> {
         ..PRICES
     };
     faulty.push(Call::Repricing { price_list: rising });
+    let has = |set: u32, fault: u32| (set >> fault) & 1 == 1;
     for set in 0..16 {
-        let has = |fault: u32| (set >> fault) & 1 == 1;
+        let has = |fault| has(set, fault);
         faulty.push(opening(
             Terms {
                 nameplate: if has(0) { 0 } else { 8_000 },
@@ -447,6 +593,9 @@ fn faults() -> Vec<Vec<Call>> {
             if has(2) { rising } else { PRICES },
             if has(3) { LAST_MONTH + 1 } else { LAST_MONTH },
         ));
+    }
+    for set in 0..32 {
+        let has = |fault| has(set, fault);
         let mut month = Month::usual(if has(0) { 0 } else { LAST_MONTH });
         if has(1) {
             month.delivered.pop();
@@ -456,6 +605,9 @@ fn faults() -> Vec<Vec<Call>> {
         }
         if has(3) {
             month.received[5] = LARGEST_READING + 1;
+        }
+        if has(4) {
+            month.received[0] = LOST;
         }
         faulty.push(month.bill());
     }

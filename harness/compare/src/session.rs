@@ -312,7 +312,9 @@ impl Session {
 
 /// The shortest list that shows a wrong variant.
 fn show_shortest(wrong: &Wrong, list: &List) {
-    let differs = |calls: &[Call]| compare(calls, &wrong.rules.run(calls)).is_err();
+    let differs = |calls: &[Call]| {
+        compare(calls, &run(calls)).is_ok_and(|library| wrong.is_shown(calls, &library))
+    };
     let shortest = shrink::shortest(&list.calls, &differs);
     println!("wrong variant: {} (noticed in {})", wrong.name, list.name);
     if let Err(difference) = compare(&shortest, &wrong.rules.run(&shortest)) {

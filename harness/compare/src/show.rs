@@ -4,6 +4,7 @@ use crate::compare::Room;
 use crate::encode::{Buffers, RECORD};
 use harness::reference::account::{Assisted, Class, PriceList, Rider, Terms};
 use harness::reference::calendar::{month_of_year, year};
+use harness::reference::gaps::LOST;
 use harness::reference::hours::is_critical_day;
 use harness::reference::ledger::Call;
 
@@ -106,11 +107,11 @@ fn register_text(register: &[u32]) -> String {
         .iter()
         .enumerate()
         .filter(|(_, reading)| **reading > 0)
-        .map(|(index, reading)| format!("place {index}: {reading}"))
+        .map(|(index, &reading)| format!("place {index}: {}", reading_text(reading)))
         .collect();
     let runs: Vec<String> = register
         .chunk_by(|one, next| one == next)
-        .map(|run| format!("{}×{}", run.len(), run[0]))
+        .map(|run| format!("{}×{}", run.len(), reading_text(run[0])))
         .collect();
     let text = match not_zero.len() {
         0 => "all 0".to_string(),
@@ -118,6 +119,13 @@ fn register_text(register: &[u32]) -> String {
         _ => runs.join(" "),
     };
     format!("{} readings, {text}", register.len())
+}
+
+fn reading_text(reading: u32) -> String {
+    match reading {
+        LOST => "lost".to_string(),
+        _ => reading.to_string(),
+    }
 }
 
 /// Damaged buffers: each record, and the lengths of the others.

@@ -1,17 +1,21 @@
 //! The day view as start and length: every month with its first and last days, days and
-//! registers that aren't there, and registers of another length; in every March and
-//! November each of the first fifteen days, among them those on which the clocks change.
+//! registers that aren't there, and registers of another length, or with every reading
+//! lost; in every March and November each of the first fifteen days, among them those on
+//! which the clocks change.
 
 use crate::interface;
 use harness::reference::calendar::{days_in_month, month_of_year, LAST_MONTH};
 use harness::reference::day_view::day_view;
+use harness::reference::gaps::LOST;
 use harness::reference::hours::register_length;
 
-/// What is asked: lengths of the two registers, month, day and register number.
+/// What is asked: lengths of the two registers and the reading in all their places, month,
+/// day and register number.
 #[derive(Clone, Copy, Debug)]
 pub struct View {
     delivered: usize,
     received: usize,
+    reading: u32,
     month: u32,
     day: u32,
     number: u32,
@@ -38,12 +42,23 @@ fn views(month: u32) -> Vec<View> {
                 views.push(View {
                     delivered: right.saturating_add_signed(delivered),
                     received: right.saturating_add_signed(received),
+                    reading: 0,
                     month,
                     day,
                     number,
                 });
             }
         }
+    }
+    for (day, number) in [(1, 0), (1, 1), (last, 0), (last, 1)] {
+        views.push(View {
+            delivered: right,
+            received: right,
+            reading: LOST,
+            month,
+            day,
+            number,
+        });
     }
     views
 }
@@ -52,8 +67,8 @@ impl View {
     pub fn by_library(&self) -> Place {
         let mut place = [u64::MAX; 2];
         interface::day_view(
-            &vec![0; self.delivered],
-            &vec![0; self.received],
+            &vec![self.reading; self.delivered],
+            &vec![self.reading; self.received],
             self.month,
             self.day,
             self.number,
@@ -64,8 +79,8 @@ impl View {
 
     /// Where the reference's part lies in its register.
     pub fn expected(&self) -> Place {
-        let delivered = vec![0; self.delivered];
-        let received = vec![0; self.received];
+        let delivered = vec![self.reading; self.delivered];
+        let received = vec![self.reading; self.received];
         let part = day_view(&delivered, &received, self.month, self.day, self.number);
         let register: &[u32] = match (part.is_empty(), self.number) {
             (false, 1) => &received,
@@ -77,7 +92,7 @@ impl View {
 }
 
 /// Wrong views, each with its name.
-pub const WRONG: [(&str, fn(&View) -> Place); 7] = [
+pub const WRONG: [(&str, fn(&View) -> Place); 8] = [
     ("days are counted from 0", |view| {
         let [start, length] = view.expected();
         [start + length, length]
@@ -110,4 +125,11 @@ pub const WRONG: [(&str, fn(&View) -> Place); 7] = [
         },
     ),
     ("no month is shown", |_| [0, 0]),
+    (
+        "a day whose readings are lost isn't shown",
+        |view| match view.reading {
+            LOST => [0, 0],
+            _ => view.expected(),
+        },
+    ),
 ];

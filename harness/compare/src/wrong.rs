@@ -9,14 +9,16 @@ use harness::reference::account::{
 use harness::reference::calendar::{
     days_in_month, month_of_year, weekday, year, Clocks, DayKind, Season, Weekday, JUNE,
 };
+use harness::reference::gaps::{filled, LOST};
 use harness::reference::hours::{
     clock_quarters, count_critical_days, register_length, Day, Period,
 };
-use harness::reference::ledger::Call;
+use harness::reference::ledger::{check_balances, Call};
 use harness::reference::refusal::{
     self, Refusal, LARGEST_HOME, LARGEST_PRICE, LARGEST_READING, MOST_CARRIED, MOST_STANDING,
 };
 use harness::reference::steps::{self, cents, Netted, Shared, ASSISTED_FREE, STANDBY_FREE};
+use std::borrow::Cow;
 use std::ops::RangeInclusive;
 
 #[derive(Clone, Copy)]
@@ -27,10 +29,36 @@ pub struct Wrong {
 
 const RIGHT: Rules = Rules::RIGHT;
 
-/// All variants, in the order of the paper.
+impl Wrong {
+    /// Whether the library's run of a list isn't the variant's, or doesn't balance by it.
+    pub fn is_shown(&self, calls: &[Call], library: &Written) -> bool {
+        let expected = Written::expected(&self.rules.run(calls), Room::for_calls(calls.len()));
+        Difference::between(library, &expected).is_some() || self.is_unbalanced(calls, library)
+    }
+
+    /// By totals of its own; that the library balances by the right ones is known.
+    fn is_unbalanced(&self, calls: &[Call], library: &Written) -> bool {
+        let Cow::Owned(totalled) = (self.rules.totalled)(calls) else {
+            return false;
+        };
+        library
+            .read(&totalled)
+            .is_none_or(|(answers, account)| check_balances(&totalled, &answers, &account).is_err())
+    }
+}
+
+/// All variants, in the order of the papers.
 pub fn all() -> Vec<Wrong> {
-    [clocks(), hours(), energy(), money(), refusals(), accounts()]
-        .concat()
+    let sets = [
+        clocks(),
+        hours(),
+        energy(),
+        money(),
+        refusals(),
+        accounts(),
+        gaps(),
+    ];
+    sets.concat()
         .into_iter()
         .map(|(name, rules)| Wrong { name, rules })
         .collect()
@@ -957,25 +985,14 @@ fn refusals_of_billings() -> Vec<Named> {
         (
             "a reading of 1,000,000 is refused",
             Rules {
-                of_billing: |account, month, delivered, received, critical_days| {
-                    let largest = delivered.iter().chain(received).max();
-                    refusal_of(account, month, delivered, received, critical_days)
-                        .or_else(|| (largest == Some(&LARGEST_READING)).then_some(Refusal::Reading))
-                },
+                of_billing: refusal_reading::<LARGEST_READING, { LARGEST_READING + 1 }>,
                 ..RIGHT
             },
         ),
         (
             "a reading of 1,000,001 is accepted",
             Rules {
-                of_billing: |account, month, delivered, received, critical_days| {
-                    let largest = delivered.iter().chain(received).max();
-                    refusal_of(account, month, delivered, received, critical_days).filter(
-                        |&refusal| {
-                            refusal != Refusal::Reading || largest != Some(&(LARGEST_READING + 1))
-                        },
-                    )
-                },
+                of_billing: refusal_reading::<{ LARGEST_READING + 1 }, LARGEST_READING>,
                 ..RIGHT
             },
         ),
@@ -983,16 +1000,40 @@ fn refusals_of_billings() -> Vec<Named> {
             "large received readings are accepted",
             Rules {
                 of_billing: |account, month, delivered, received, critical_days| {
-                    let received: Vec<u32> = received
-                        .iter()
-                        .map(|&reading| reading.min(LARGEST_READING))
-                        .collect();
-                    refusal_of(account, month, delivered, &received, critical_days)
+                    refusal_of(account, month, delivered, &limited(received), critical_days)
                 },
                 ..RIGHT
             },
         ),
     ]
+}
+
+/// A register with one reading read as another.
+fn with_reading(register: &[u32], from: u32, to: u32) -> Vec<u32> {
+    let readings = register.iter().copied();
+    readings.map(|reading| read_as(reading, from, to)).collect()
+}
+
+/// A register with no reading above the limit.
+fn limited(register: &[u32]) -> Vec<u32> {
+    let limited = |&reading: &u32| match reading {
+        LOST => LOST,
+        _ => reading.min(LARGEST_READING),
+    };
+    register.iter().map(limited).collect()
+}
+
+/// The refusal of a billing with one reading read as another.
+fn refusal_reading<const FROM: u32, const TO: u32>(
+    account: &Account,
+    month: u32,
+    delivered: &[u32],
+    received: &[u32],
+    critical_days: u32,
+) -> Option<Refusal> {
+    let delivered = with_reading(delivered, FROM, TO);
+    let received = with_reading(received, FROM, TO);
+    refusal_of(account, month, &delivered, &received, critical_days)
 }
 
 fn refusal_of(
@@ -1077,6 +1118,211 @@ fn accounts() -> Vec<Named> {
     ]
 }
 
+fn gaps() -> Vec<Named> {
+    [fillings(), refusals_of_gaps()].concat()
+}
+
+/// The rules with another filling.
+fn with_filling(filled: fn(&[u32], &[u32]) -> Vec<u32>) -> Rules {
+    Rules { filled, ..RIGHT }
+}
+
+fn fillings() -> Vec<Named> {
+    vec![
+        (
+            "a gap counts as 0",
+            with_filling(|register, _| with_reading(register, LOST, 0)),
+        ),
+        (
+            "a gap counts as the next reading",
+            with_filling(|register, _| {
+                let backwards: Vec<u32> = register.iter().rev().copied().collect();
+                filled(&backwards).into_iter().rev().collect()
+            }),
+        ),
+        (
+            "a gap counts as the other register's readings",
+            with_filling(|register, other| filled_from(register, &filled(other))),
+        ),
+        (
+            "a lost reading counts as the one before it, though that is lost too",
+            with_filling(|register, _| filled_from(register, &[&[0], register].concat())),
+        ),
+        (
+            "a gap counts as 0 from midnight on",
+            with_filling(|register, _| register.chunks(96).flat_map(filled).collect()),
+        ),
+        (
+            "a lost reading counts in the period of the one it is filled with",
+            Rules {
+                counted: |_, last| last,
+                ..RIGHT
+            },
+        ),
+        (
+            "a gap isn't filled in the demand reading",
+            Rules {
+                metered: |reading, _| read_as(reading, LOST, 0),
+                ..RIGHT
+            },
+        ),
+        (
+            "the mark itself is the demand reading",
+            Rules {
+                metered: |reading, _| reading,
+                ..RIGHT
+            },
+        ),
+        (
+            "a gap isn't filled in the totals",
+            Rules {
+                totalled: |calls| Cow::Owned(unfilled(calls)),
+                ..RIGHT
+            },
+        ),
+    ]
+}
+
+/// A register with each lost reading taken from the same place of other readings.
+fn filled_from(register: &[u32], others: &[u32]) -> Vec<u32> {
+    let readings = register.iter().zip(others);
+    readings
+        .map(|(&reading, &other)| read_as(reading, LOST, other))
+        .collect()
+}
+
+/// The calls with 0 for each lost reading.
+fn unfilled(calls: &[Call]) -> Vec<Call> {
+    with_registers(calls, |_, registers| {
+        for register in registers {
+            *register = with_reading(register, LOST, 0);
+        }
+    })
+}
+
+/// The calls with the two registers of each month changed.
+fn with_registers(calls: &[Call], mut change: impl FnMut(u32, [&mut Vec<u32>; 2])) -> Vec<Call> {
+    let mut calls = calls.to_vec();
+    for call in &mut calls {
+        if let Call::Billing {
+            month,
+            delivered,
+            received,
+            ..
+        } = call
+        {
+            change(*month, [delivered, received]);
+        }
+    }
+    calls
+}
+
+fn refusals_of_gaps() -> Vec<Named> {
+    vec![
+        (
+            "the mark is refused by 10",
+            Rules {
+                of_billing: refusal_reading::<LOST, { LOST - 1 }>,
+                ..RIGHT
+            },
+        ),
+        (
+            "4,294,967,294 is a mark too",
+            Rules {
+                of_billing: refusal_reading::<{ LOST - 1 }, LOST>,
+                filled: |register, _| filled(&with_reading(register, LOST - 1, LOST)),
+                ..RIGHT
+            },
+        ),
+        (
+            "13 comes before 10",
+            Rules {
+                of_billing: |account, month, delivered, received, critical_days| {
+                    let [used, made] = [delivered, received].map(limited);
+                    refusal_of(account, month, &used, &made, critical_days)
+                        .filter(|&refusal| refusal == Refusal::FirstReadingLost)
+                        .or_else(|| refusal_of(account, month, delivered, received, critical_days))
+                },
+                ..RIGHT
+            },
+        ),
+        (
+            "13 asks for the delivered register alone",
+            Rules {
+                of_billing: |account, month, delivered, received, critical_days| {
+                    let received = with_reading(received, LOST, 0);
+                    refusal_of(account, month, delivered, &received, critical_days)
+                },
+                ..RIGHT
+            },
+        ),
+        (
+            "13 asks for the received register alone",
+            Rules {
+                of_billing: |account, month, delivered, received, critical_days| {
+                    let delivered = with_reading(delivered, LOST, 0);
+                    refusal_of(account, month, &delivered, received, critical_days)
+                },
+                ..RIGHT
+            },
+        ),
+        (
+            "any lost reading is refused by 13",
+            Rules {
+                of_billing: |account, month, delivered, received, critical_days| {
+                    let any_lost = delivered.contains(&LOST) || received.contains(&LOST);
+                    refusal_of(account, month, delivered, received, critical_days)
+                        .or_else(|| any_lost.then_some(Refusal::FirstReadingLost))
+                },
+                ..RIGHT
+            },
+        ),
+        (
+            "a gap at the start counts as 0",
+            Rules {
+                of_billing: refusal_reading::<LOST, 0>,
+                ..RIGHT
+            },
+        ),
+        (
+            "a gap at the start counts as the next reading",
+            Rules {
+                of_billing: refusal_reading::<LOST, 0>,
+                filled: |register, _| {
+                    let first = register.iter().copied().find(|&reading| reading != LOST);
+                    let register = [&[first.unwrap_or(0)], register].concat();
+                    filled(&register)[1..].to_vec()
+                },
+                ..RIGHT
+            },
+        ),
+        (
+            "a gap at the start counts as the last reading of the month before",
+            Rules {
+                answered: |calls| Cow::Owned(carried_over(calls)),
+                ..RIGHT
+            },
+        ),
+    ]
+}
+
+/// Where the billing before is that of the month before, a lost first reading is the last
+/// one of its register.
+fn carried_over(calls: &[Call]) -> Vec<Call> {
+    let mut before = None;
+    let mut ends = [LOST; 2];
+    with_registers(calls, |month, registers| {
+        let follows = before == month.checked_sub(1);
+        for (register, end) in registers.into_iter().zip(&mut ends) {
+            if let Some(first) = register.first_mut().filter(|_| follows) {
+                *first = read_as(*first, LOST, *end);
+            }
+            *end = filled(register).last().copied().unwrap_or(LOST);
+        }
+        before = Some(month);
+    })
+}
+
 /// The variants that no list has shown to be wrong yet.
 pub struct Watch {
     pub unnoticed: Vec<Wrong>,
@@ -1089,11 +1335,7 @@ impl Watch {
 
     /// Strikes out and returns each variant whose run of the list isn't the library's.
     pub fn look(&mut self, calls: &[Call], library: &Written) -> Vec<Wrong> {
-        let room = Room::for_calls(calls.len());
-        let is_noticed = |wrong: &mut Wrong| {
-            let expected = Written::expected(&wrong.rules.run(calls), room);
-            Difference::between(library, &expected).is_some()
-        };
-        self.unnoticed.extract_if(.., is_noticed).collect()
+        let is_shown = |wrong: &mut Wrong| wrong.is_shown(calls, library);
+        self.unnoticed.extract_if(.., is_shown).collect()
     }
 }

@@ -4,7 +4,8 @@ use super::calendar::{days_in_month, LAST_MONTH};
 use super::hours::{first_reading, register_length};
 
 /// Day 1 is the first; number 0 is delivered and 1 received. Where there is no
-/// such day, the empty part at the front of the delivered register.
+/// such day, the empty part at the front of the delivered register. Lost readings are
+/// shown as they are marked (02, No. 4).
 pub fn day_view<'a>(
     delivered: &'a [u32],
     received: &'a [u32],

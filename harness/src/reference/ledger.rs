@@ -96,7 +96,7 @@ pub fn run(calls: &[Call]) -> Ledger {
 /// Demand 3's totals over a list of calls.
 #[derive(Clone, Copy, Debug, Default, PartialEq, Eq)]
 pub struct Totals {
-    // From the registers of the bills answered 0.
+    // From the registers of the bills answered 0, filled.
     pub exported: [u128; 4],
     pub delivered: [u128; 4],
     // From the bills.

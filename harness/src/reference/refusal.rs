@@ -2,6 +2,7 @@
 
 use super::account::{Account, Class, PriceList, Rider, State, Terms};
 use super::calendar::{days_in_month, LAST_MONTH};
+use super::gaps::LOST;
 use super::hours::{count_critical_days, register_length};
 
 /// Refusal 3: most Wh carried in a period.
@@ -32,6 +33,8 @@ pub enum Refusal {
     CriticalDays = 9,
     Reading = 10,
     BookFull = 11,
+    /// 02, No. 4.
+    FirstReadingLost = 13,
 }
 
 impl Refusal {
@@ -74,7 +77,7 @@ pub fn of_repricing(account: &Account, price_list: &PriceList) -> Option<Refusal
     ])
 }
 
-/// Order 1, 3, 11, 7, 8, 9, 10.
+/// Order 1, 3, 11, 7, 8, 9, 10, 13.
 pub fn of_billing(
     account: &Account,
     month: u32,
@@ -98,6 +101,10 @@ pub fn of_billing(
         (
             breaks_reading(delivered) || breaks_reading(received),
             Refusal::Reading,
+        ),
+        (
+            begins_lost(delivered) || begins_lost(received),
+            Refusal::FirstReadingLost,
         ),
     ])
 }
@@ -181,7 +188,14 @@ fn breaks_critical_days(month: u32, critical_days: u32) -> bool {
     past_the_month || count_critical_days(critical_days) > MOST_CRITICAL_DAYS
 }
 
-/// Refusal 10.
+/// Refusal 10, which passes over the mark (02, No. 4).
 fn breaks_reading(register: &[u32]) -> bool {
-    register.iter().any(|&reading| reading > LARGEST_READING)
+    register
+        .iter()
+        .any(|&reading| reading > LARGEST_READING && reading != LOST)
+}
+
+/// Refusal 13.
+fn begins_lost(register: &[u32]) -> bool {
+    register.first() == Some(&LOST)
 }

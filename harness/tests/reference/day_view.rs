@@ -1,6 +1,8 @@
 //! 01, "Day view and statement": the day view and its four empty cases.
 
-use crate::helpers::{DECEMBER_2099, FEBRUARY_2000, FEBRUARY_2001, MARCH_2007, NOVEMBER_2007};
+use crate::helpers::{
+    DECEMBER_2099, FEBRUARY_2000, FEBRUARY_2001, LOST, MARCH_2007, NOVEMBER_2007,
+};
 use harness::reference::day_view::day_view;
 
 /// Registers with a different number in each place.
@@ -45,6 +47,23 @@ fn days_on_which_the_clocks_change() {
         assert_eq!(at(day + 1), (next..next + 96).collect::<Vec<_>>());
         let view = day_view(&delivered[1..], &delivered[1..], month, day, 0);
         assert!(view.is_empty());
+    }
+}
+
+#[test]
+fn lost_readings_are_shown_as_they_are_marked() {
+    let (mut delivered, mut received) = registers(28);
+    // From 23:45 of day 1 on, and a whole register.
+    delivered[95..100].fill(LOST);
+    received.fill(LOST);
+    let view = day_view(&delivered, &received, FEBRUARY_2001, 1, 0);
+    assert_eq!((view[94], view[95]), (94, LOST));
+    let view = day_view(&delivered, &received, FEBRUARY_2001, 2, 0);
+    assert!(std::ptr::eq(view, &delivered[96..192]));
+    assert_eq!((&view[..4], view[4]), (&[LOST; 4][..], 100));
+    for day in 1..=28 {
+        let view = day_view(&delivered, &received, FEBRUARY_2001, day, 1);
+        assert_eq!(view, [LOST; 96]);
     }
 }
 

@@ -18,6 +18,9 @@ pub const MARCH_2007: u32 = 86;
 pub const NOVEMBER_2007: u32 = 94;
 pub const DECEMBER_2099: u32 = 1199;
 
+/// 02, No. 4: the mark of a lost reading.
+pub const LOST: u32 = 4_294_967_295;
+
 // One quarter of each window.
 pub const OFF_PEAK: usize = 0;
 pub const DISCOUNT: usize = 4;
@@ -95,6 +98,18 @@ impl Registers {
 
     pub fn receive(mut self, day: usize, quarter: usize, wh: u32) -> Registers {
         self.received[96 * (day - 1) + quarter] = wh;
+        self
+    }
+
+    /// So many delivered readings from a quarter on are lost.
+    pub fn lose_delivered(mut self, day: usize, quarter: usize, count: usize) -> Registers {
+        self.delivered[96 * (day - 1) + quarter..][..count].fill(LOST);
+        self
+    }
+
+    /// So many received readings from a quarter on are lost.
+    pub fn lose_received(mut self, day: usize, quarter: usize, count: usize) -> Registers {
+        self.received[96 * (day - 1) + quarter..][..count].fill(LOST);
         self
     }
 }

@@ -1,7 +1,7 @@
 //! Lists of calls and the balances of demand 3, worked by hand.
 
 use crate::helpers::{bridge_home, home, prices, DISCOUNT, MAY_2001, OFF_PEAK, WINTER_ON_PEAK};
-use crate::helpers::{Registers, JUNE_2001};
+use crate::helpers::{Registers, JUNE_2001, LOST};
 use harness::reference::account::{Account, PriceList, State, Terms};
 use harness::reference::hours::register_length;
 use harness::reference::ledger::{check_balances, run, Amounts, Call, Imbalance, Ledger};
@@ -74,6 +74,63 @@ fn totals_of_a_banked_list() {
     assert_eq!(totals.forfeited, [0, 400, 1_000, 0]);
     assert_eq!(totals.left, [0; 4]);
     assert_eq!(totals.billed, [0; 4]);
+}
+
+/// May with a gap in each register; the two calls after it are refused, by 13 and by 7.
+fn list_with_gaps() -> Vec<Call> {
+    let june = || Registers::zeros(30).receive(1, OFF_PEAK, 9);
+    vec![
+        opening(home(), prices(), MAY_2001),
+        billing(
+            MAY_2001,
+            Registers::zeros(31)
+                .receive(1, OFF_PEAK, 1_000)
+                .lose_received(1, OFF_PEAK + 1, 4)
+                .deliver(1, WINTER_ON_PEAK - 1, 30)
+                .lose_delivered(1, WINTER_ON_PEAK, 2),
+        ),
+        billing(JUNE_2001, june().lose_delivered(1, 0, 1)),
+        billing(MAY_2001, june().lose_delivered(1, 1, 1)),
+    ]
+}
+
+#[test]
+fn totals_are_taken_from_filled_readings() {
+    let calls = list_with_gaps();
+    let ledger = run(&calls);
+    assert_eq!(numbers(&ledger), [0, 0, 13, 7]);
+    let totals = check_balances(&calls, &ledger.answers, &ledger.account).unwrap();
+    // Four quarters off-peak of 1,000 Wh and one at discount; 30 Wh off-peak, 60 on-peak.
+    assert_eq!(totals.exported, [0, 0, 4_000, 1_000]);
+    assert_eq!(totals.delivered, [0, 60, 30, 0]);
+    assert_eq!(totals.own, [0, 0, 30, 0]);
+    assert_eq!(totals.billed, [0, 60, 0, 0]);
+    assert_eq!(totals.left, [0, 0, 3_970, 1_000]);
+}
+
+#[test]
+fn totals_without_the_gaps_do_not_balance() {
+    let calls = list_with_gaps();
+    let ledger = run(&calls);
+    let without = |lost_in: fn(&mut Call) -> Option<&mut Vec<u32>>| {
+        let mut calls = calls.clone();
+        for register in calls.iter_mut().filter_map(lost_in) {
+            for reading in register.iter_mut().filter(|reading| **reading == LOST) {
+                *reading = 0;
+            }
+        }
+        check_balances(&calls, &ledger.answers, &ledger.account)
+    };
+    let no_delivered = without(|call| match call {
+        Call::Billing { delivered, .. } => Some(delivered),
+        _ => None,
+    });
+    assert_eq!(no_delivered, Err(Imbalance::Delivered { period: 1 }));
+    let no_received = without(|call| match call {
+        Call::Billing { received, .. } => Some(received),
+        _ => None,
+    });
+    assert_eq!(no_received, Err(Imbalance::Exported { period: 2 }));
 }
 
 #[test]

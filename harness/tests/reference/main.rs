@@ -1,4 +1,4 @@
-//! The second implementation against figures worked by hand from document 01.
+//! The second implementation against figures worked by hand from documents 01 and 02.
 
 mod helpers;
 
@@ -6,6 +6,7 @@ mod bills;
 mod calendar;
 mod day_view;
 mod examples;
+mod gaps;
 mod hours;
 mod ledger;
 mod mistakes;

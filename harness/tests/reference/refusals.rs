@@ -2,8 +2,8 @@
 
 use crate::helpers::{
     bridge_home, business, home, open_account, prices, Registers, APRIL_2001, DECEMBER_2099,
-    FEBRUARY_2000, FEBRUARY_2001, JANUARY_2000, MARCH_2001, MARCH_2006, MARCH_2007, NOVEMBER_2006,
-    NOVEMBER_2007,
+    FEBRUARY_2000, FEBRUARY_2001, JANUARY_2000, LOST, MARCH_2001, MARCH_2006, MARCH_2007,
+    NOVEMBER_2006, NOVEMBER_2007,
 };
 use harness::reference::account::{Account, Bill, Closing, PriceList, Rider, State, Terms};
 use harness::reference::calls::{billing, closing, opening, repricing};
@@ -324,6 +324,12 @@ fn refusal_8_register_length() {
             assert_eq!(with(wrong, wrong), 8);
         }
     }
+    // An empty register has no first reading that could be lost.
+    let registers = Registers {
+        delivered: Vec::new(),
+        ..Registers::zeros(28).lose_received(1, 0, 1)
+    };
+    assert_eq!(billed(open(), FEBRUARY_2001, &registers, 0), 8);
 }
 
 #[test]
@@ -369,12 +375,92 @@ fn refusal_10_reading() {
             (999_999, 0),
             (1_000_000, 0),
             (1_000_001, 10),
-            (u32::MAX, 10),
+            (4_294_967_294, 10),
+            // The mark is passed over; 13 is for the first reading alone.
+            (LOST, if index == 0 { 13 } else { 0 }),
         ] {
             assert_eq!(delivered(reading), number);
             assert_eq!(received(reading), number);
         }
     }
+}
+
+#[test]
+fn refusal_10_beside_lost_readings() {
+    let usual = Registers::zeros(28).lose_delivered(2, 10, 5);
+    // Right before the gap, right after it, and later.
+    for place in [9, 15, 16] {
+        let too_large = usual.clone().deliver(2, place, 1_000_001);
+        assert_eq!(billed(open(), FEBRUARY_2001, &too_large, 0), 10);
+        let largest = usual.clone().deliver(2, place, 1_000_000);
+        assert_eq!(billed(open(), FEBRUARY_2001, &largest, 0), 0);
+    }
+    // In the other register.
+    let other = usual.receive(2, 12, 1_000_001);
+    assert_eq!(billed(open(), FEBRUARY_2001, &other, 0), 10);
+}
+
+#[test]
+fn refusal_13_first_reading_lost() {
+    let number = |registers: Registers| billed(open(), FEBRUARY_2001, &registers, 0);
+    let zeros = || Registers::zeros(28);
+    // The first alone, some, and the whole register; in one of the two or in both.
+    for count in [1, 2, 96, 2_687, 2_688] {
+        assert_eq!(number(zeros().lose_delivered(1, 0, count)), 13);
+        assert_eq!(number(zeros().lose_received(1, 0, count)), 13);
+        let both = zeros().lose_delivered(1, 0, count).lose_received(1, 0, 1);
+        assert_eq!(number(both), 13);
+    }
+    // Any other reading may be lost, and all of them but the first.
+    for (day, quarter, count) in [(1, 1, 1), (1, 1, 2_687), (2, 0, 96), (28, 95, 1)] {
+        assert_eq!(number(zeros().lose_delivered(day, quarter, count)), 0);
+        assert_eq!(number(zeros().lose_received(day, quarter, count)), 0);
+    }
+    // 10 comes first, in the same register or in the other.
+    let lost = zeros().lose_delivered(1, 0, 3);
+    assert_eq!(number(lost.clone().deliver(1, 3, 1_000_001)), 10);
+    assert_eq!(number(lost.clone().deliver(28, 95, 1_000_001)), 10);
+    assert_eq!(number(lost.receive(1, 0, 1_000_001)), 10);
+}
+
+#[test]
+fn refusal_13_does_not_look_at_the_month_before() {
+    let february = Registers::zeros(28)
+        .deliver(28, 95, 70)
+        .lose_received(28, 95, 1);
+    let (answer, account) = billing(
+        open(),
+        FEBRUARY_2001,
+        &february.delivered,
+        &february.received,
+        0,
+    );
+    assert_eq!(answer.number, 0);
+    let march = Registers::zeros(31).lose_delivered(1, 0, 1);
+    assert_eq!(billed(account, MARCH_2001, &march, 0), 13);
+    let march = Registers::zeros(31).lose_received(1, 0, 1);
+    assert_eq!(billed(account, MARCH_2001, &march, 0), 13);
+}
+
+#[test]
+fn nothing_but_a_reading_may_be_lost() {
+    // 4,294,967,295 elsewhere is a number like others, and too large.
+    assert_eq!(opened(fresh(), business(LOST), prices(), 0), 5);
+    let list = PriceList {
+        demand: LOST,
+        ..prices()
+    };
+    assert_eq!(opened(fresh(), home(), list, 0), 4);
+    assert_eq!(opened(fresh(), home(), prices(), LOST), 7);
+    let zeros = Registers::zeros(28);
+    assert_eq!(billed(open(), LOST, &zeros, 0), 7);
+    assert_eq!(billed(open(), FEBRUARY_2001, &zeros, LOST), 9);
+    // As a demand limit it is one that every nameplate is below.
+    let terms = Terms {
+        demand_limit: LOST,
+        ..home()
+    };
+    assert_eq!(opened(fresh(), terms, prices(), 0), 0);
 }
 
 #[test]
@@ -390,6 +476,8 @@ fn refusal_11_book_full() {
     );
     assert_eq!((answer.number, full.next_month), (0, 1_200));
     // Whatever else is wrong.
+    let lost = december.clone().lose_delivered(1, 0, 1);
+    assert_eq!(billed(full, 1_200, &lost, 0), 11);
     for month in [1_200, DECEMBER_2099, 0, u32::MAX] {
         assert_eq!(billed(full, month, &december, 0), 11);
         assert_eq!(billed(full, month, &Registers::zeros(1), u32::MAX), 11);
@@ -459,7 +547,12 @@ fn order_of_a_billings_refusals() {
         ..open()
     };
     let mut month = APRIL_2001;
-    let mut registers = Registers::zeros(27).deliver(1, 0, u32::MAX);
+    let faulty = |days| {
+        Registers::zeros(days)
+            .lose_delivered(1, 0, 1)
+            .receive(1, 5, 1_000_001)
+    };
+    let mut registers = faulty(27);
     let mut critical_days = u32::MAX;
     assert_eq!(billed(account, month, &registers, critical_days), 1);
     account.state = State::Open;
@@ -470,10 +563,12 @@ fn order_of_a_billings_refusals() {
     assert_eq!(billed(account, month, &registers, critical_days), 7);
     month = FEBRUARY_2001;
     assert_eq!(billed(account, month, &registers, critical_days), 8);
-    registers = Registers::zeros(28).deliver(1, 0, u32::MAX);
+    registers = faulty(28);
     assert_eq!(billed(account, month, &registers, critical_days), 9);
     critical_days = 0;
     assert_eq!(billed(account, month, &registers, critical_days), 10);
+    registers = registers.receive(1, 5, 0);
+    assert_eq!(billed(account, month, &registers, critical_days), 13);
     registers = Registers::zeros(28);
     assert_eq!(billed(account, month, &registers, critical_days), 0);
 }

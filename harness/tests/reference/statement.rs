@@ -277,6 +277,119 @@ fn each_refusal_of_a_month() {
     );
 }
 
+// 02, No. 4 and open point 26: in a run 4294967295 is a lost reading.
+
+#[test]
+fn runs_of_lost_readings_count_as_the_reading_before() {
+    let month = "bill=2001-02\ncritical=0\n";
+    // 01's example again, of which one reading came, or one each week.
+    assert_after_opening(
+        &format!("{month}run=1,100,0\nrun=2687,4294967295,0\n"),
+        FEBRUARY,
+    );
+    assert_after_opening(
+        &format!("{month}run=1,100,0\nrun=2687,4294967295,4294967295\n"),
+        FEBRUARY,
+    );
+    let week = "run=1,100,0\nrun=600,4294967295,4294967295\nrun=71,4294967295,0\n";
+    assert_after_opening(&format!("{month}{}", week.repeat(4)), FEBRUARY);
+    // In the received column alone.
+    assert_after_opening(
+        &format!("{month}run=7,100,0\nrun=2681,100,4294967295"),
+        FEBRUARY,
+    );
+    // Two quarters off-peak of 100 Wh, two more lost and two at discount: 400 and 200 Wh;
+    // 50 Wh came in each of the lost ones. 300 × 10,000 + 100 × 5,000 is 3.5 cents.
+    assert_after_opening(
+        &format!("{month}run=2,100,0\nrun=4,4294967295,50\nrun=2682,0,0\n"),
+        "bill=2001-02 answer=0 own=0,0,100,100 out=0,0,0,0 in=0,0,0,0 paid=0,0,0,0 \
+         forfeited=0,0,0,0 billed=0,0,300,100 left=0,0,0,0 energy=4 due=1404\n",
+    );
+}
+
+#[test]
+fn a_run_of_none_has_no_reading_to_fill_with() {
+    let month = "bill=2001-02\ncritical=0\n";
+    for runs in [
+        "run=0,4294967295,4294967295\nrun=2688,100,0\n",
+        "run=1,100,0\nrun=0,7,7\nrun=2687,4294967295,4294967295\n",
+        "run=1,100,0\nrun=2687,4294967295,0\nrun=0,4294967295,4294967295\n",
+    ] {
+        assert_after_opening(&format!("{month}{runs}"), FEBRUARY);
+    }
+    assert_after_opening(
+        &format!("{month}run=0,100,0\nrun=2688,4294967295,0\n"),
+        &refused("2001-02", 13),
+    );
+}
+
+#[test]
+fn a_lost_first_reading_of_a_run() {
+    let month = "bill=2001-02\ncritical=0\n";
+    for (runs, number) in [
+        ("run=2688,4294967295,0\n", 13),
+        ("run=2688,0,4294967295\n", 13),
+        ("run=2688,4294967295,4294967295", 13),
+        ("run=1,4294967295,0\nrun=2687,100,0\n", 13),
+        ("run=1,4294967295,0\nrun=2687,100,1000001\n", 10),
+        ("run=1,4294967295,1000001\nrun=2687,100,0\n", 10),
+        ("run=1,4294967294,0\nrun=2687,100,0\n", 10),
+        ("run=1,100,0\nrun=2687,4294967295,4294967294\n", 10),
+        ("run=2687,4294967295,0\n", 8),
+    ] {
+        // The month can be billed afterwards.
+        assert_after_opening(
+            &format!("{month}{}\n{month}run=2688,100,0\n", runs.trim_end()),
+            &(refused("2001-02", number) + FEBRUARY),
+        );
+    }
+}
+
+#[test]
+fn a_gap_over_the_end_of_a_month() {
+    let february = "bill=2001-02\ncritical=0\nrun=1,100,0\nrun=2687,4294967295,0\n";
+    assert_after_opening(
+        &format!(
+            "{february}bill=2001-03\ncritical=0\nrun=96,4294967295,0\nrun=2880,0,0\n\
+             bill=2001-03\ncritical=0\nrun=1,0,0\nrun=2975,4294967295,0\n"
+        ),
+        &[
+            FEBRUARY.to_string(),
+            refused("2001-03", 13),
+            idle("2001-03"),
+        ]
+        .concat(),
+    );
+}
+
+#[test]
+fn no_other_number_is_ever_lost() {
+    let lost = |line: usize, key: &str| opening_with(line, &format!("{key}=4294967295"));
+    assert_printed(lost(4, "nameplate"), "open=5\n");
+    assert_printed(lost(5, "limit"), "open=0\n");
+    for (line, key) in [
+        (8, "demand"),
+        (11, "credit"),
+        (13, "basic"),
+        (14, "minimum"),
+    ] {
+        assert_printed(lost(line, key), "open=4\n");
+    }
+    assert_after_opening(
+        "bill=2001-02\ncritical=4294967295\nrun=2688,100,0\n",
+        &refused("2001-02", 9),
+    );
+    assert_after_opening(
+        "bill=2001-02\ncritical=0\nrun=1,100,0\nrun=4294967295,100,0\n",
+        "line=18\n",
+    );
+    // Past 32 bits there is no number.
+    assert_after_opening(
+        "bill=2001-02\ncritical=0\nrun=1,100,0\nrun=2687,4294967296,0\n",
+        "line=18\n",
+    );
+}
+
 // Open point 12: the opening alone, and after a refused one.
 
 #[test]

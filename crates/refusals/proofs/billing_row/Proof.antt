@@ -1,4 +1,6 @@
--- `refusals::billing_row` asks the rows of a closing and then rows 11, 7, 8, 9 and 10.
+-- `refusals::billing_row` asks the rows of a closing and then rows 11, 7, 8, 9, 10 and 13.
+use mathlib.Core.Path.{_≡_}
+use mathlib.Core.Bool.{cond}
 use borrow.Author.Needs.{needs}
 use borrow.Author.Tests.{lt-ltb, le-ltb, eq-eqb, ne-eqb}
 use Rattle.refusals.specs.Table.{billingRow}
@@ -54,9 +56,12 @@ returns-6 c =
       c .if6 .taken,
     ))
 
-returns-7 : tie.Need-returns-7
+-- Where no row before it applies, the last one decides.
+last-row : (c : tie.Else6) →
+    let args = c .before .before .before .before .before .before .before .args in
+    billingRow (args .fresh) (args .unusable) (args .next) (args .month) (args .faults) ≡ cond (args .faults .firstlost) 13 0
 unfolding billingRow
-returns-7 c =
+last-row c =
     rw (later-row _ _ _ (c .before .before .before .before .before .before .closing-row .ensures) (c .before .before .before .before .before .if1 .left))
     (rw (
       le-ltb _ _ (c .before .before .before .before .if2 .left),
@@ -65,6 +70,12 @@ returns-7 c =
       c .before .if5 .left,
       c .if6 .left,
     ))
+
+returns-7 : tie.Need-returns-7
+returns-7 c = rw (last-row (c .before), c .if7 .taken)
+
+returns-8 : tie.Need-returns-8
+returns-8 c = rw (last-row (c .before), c .if7 .left)
 
 pub billing-row-spec : {M : Type 1} → statement M
 billing-row-spec =
@@ -77,4 +88,5 @@ billing-row-spec =
     returns-4
     returns-5
     returns-6
-    returns-7)
+    returns-7
+    returns-8)

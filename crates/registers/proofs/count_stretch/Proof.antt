@@ -1,5 +1,5 @@
 -- `registers::count_stretch` adds a day's readings one by one: `Counting` has the step.
-use mathlib.Core.Path.{_≡_, sym}
+use mathlib.Core.Path.{_≡_}
 use Prim.Native.Nat.{_≤_, _<_, _-_, _+_}
 use native.Mathlib.Omega.{arith}
 use borrow.Author.Needs.{needs}
@@ -8,7 +8,7 @@ use Rattle.calendar.specs.Calendar.{seasonOf, dayKindOf, quarterOf}
 use Rattle.calendar.proofs.Laws.{daysIn-le, dayLength-le, quarterOf-lt, quarterOf-is}
 use Rattle.hours.proofs.Laws.{rowStart-le, period-is}
 use Rattle.registers.specs.Counting.{DayCounted}
-use Rattle.registers.proofs.Laws.{reading-is}
+use Rattle.registers.proofs.Laws.{counts-as}
 use Rattle.registers.proofs.Counting.{day-step, in-month, room}
 use Rattle.registers.proofs.count_stretch.Statement.{statement}
 use Rattle.registers.proofs.count_stretch.Tie as tie
@@ -104,7 +104,7 @@ add-requires c κs =
     let st = c .before .before .before .before .before .before .before .before in
     room
     _ _ _ _
-    (λ i. rw reading-is (omega (arith, c .shared-slice-known2 .given i)))
+    (λ i. omega (arith, c .shared-slice-known2 .given i))
     _ _ _
     (at .loop .inv .2)
     (st .pre .1 .0)
@@ -128,7 +128,7 @@ loop-again c =
           (lp .loop .place)
           _ _
           (period-is _ _ _ _ _ (told .0) (told .1) (quarter (c .before .before .before .before)) (c .before .before .period-on .ensures))
-          (rw (← (st .pre .1 .1 .0)) (sym (reading-is _ _)))
+          (rw (← (st .pre .1 .1 .0)) (counts-as _ _ (rw (← (st .pre .1 .1 .0)) at (lp .loop .inv .2 .last))))
           (lp .loop .inv .2)
           (c .add .ensures),
     )

@@ -38,24 +38,44 @@ returns-6 : tie.Need-returns-6
 unfolding rowOf monthRow
 returns-6 c =
     let a = c .before .before in
-    simp (ne-eqb _ _ (a .before .if1 .left), ne-eqb _ _ (a .if2 .left), ne-eqb _ _ (c .before .if5 .left), lt-leb _ _ (c .if6 .taken))
+    simp (ne-eqb _ _ (a .before .if1 .left), ne-eqb _ _ (a .if2 .left), c .if6 .taken)
 
 returns-7 : tie.Need-returns-7
 unfolding rowOf monthRow
 returns-7 c =
-    let b = c .before .before in
-    let a = b .before in
-    simp (ne-eqb _ _ (a .before .if1 .left), ne-eqb _ _ (a .if2 .left), ne-eqb _ _ (b .if5 .left), le-leb _ _ (c .before .if6 .left), lt-leb _ _ (c .if7 .taken))
-
-sub-result-2 : tie.Need-sub-result-2
-sub-result-2 c = search needs
+    let b = c .before in
+    let a = b .before .before in
+    simp (ne-eqb _ _ (a .before .if1 .left), ne-eqb _ _ (a .if2 .left), ne-eqb _ _ (b .before .if5 .left), lt-leb _ _ (c .if7 .taken), ne-eqb _ _ (b .if6 .left))
 
 returns-8 : tie.Need-returns-8
 unfolding rowOf monthRow
 returns-8 c =
     let b = c .before .before in
-    let a = b .before in
-    simp (ne-eqb _ _ (a .before .if1 .left), ne-eqb _ _ (a .if2 .left), ne-eqb _ _ (b .if5 .left), le-leb _ _ (c .before .if6 .left), le-leb _ _ (c .if7 .left))
+    let a = b .before .before in
+    simp (
+      ne-eqb _ _ (a .before .if1 .left),
+      ne-eqb _ _ (a .if2 .left),
+      ne-eqb _ _ (b .before .if5 .left),
+      le-leb _ _ (c .before .if7 .left),
+      lt-leb _ _ (c .if8 .taken),
+      ne-eqb _ _ (b .if6 .left),
+    )
+
+sub-result-2 : tie.Need-sub-result-2
+sub-result-2 c = search needs
+
+returns-9 : tie.Need-returns-9
+unfolding rowOf monthRow
+returns-9 c =
+    let b = c .before .before in
+    let a = b .before .before in
+    simp (
+      ne-eqb _ _ (a .before .if1 .left),
+      ne-eqb _ _ (a .if2 .left),
+      ne-eqb _ _ (b .before .if5 .left),
+      le-leb _ _ (c .before .if7 .left),
+      le-leb _ _ (c .if8 .left),
+    )
 
 pub row-of-spec : {M : Type 1} → statement M
 row-of-spec =
@@ -69,5 +89,6 @@ row-of-spec =
     returns-5
     returns-6
     returns-7
+    returns-8
     sub-result-2
-    returns-8)
+    returns-9)

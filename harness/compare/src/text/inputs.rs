@@ -1,11 +1,12 @@
 //! What is fed to the program: the worked examples, one input with each line and byte
-//! changed in turn, and random inputs, most of them damaged.
+//! changed in turn, runs of lost readings, and random inputs, most of them damaged.
 
 use crate::show::{class_text, rider_text};
 use harness::generate;
 use harness::random::Random;
 use harness::reference::account::{Assisted, PriceList, Terms};
 use harness::reference::calendar::{month_of_year, year, LAST_MONTH};
+use harness::reference::gaps::LOST;
 use harness::reference::hours::register_length;
 use harness::reference::refusal::LARGEST_READING;
 use harness::reference::statement::MOST_READINGS;
@@ -175,6 +176,62 @@ pub fn changes() -> Vec<Input> {
     inputs
 }
 
+/// June, which the base input has last, with runs of lost readings in one column or in both.
+pub fn gaps() -> Vec<Input> {
+    let base: Lines = include_str!("base.in").lines().map(Into::into).collect();
+    let mut inputs = Vec::new();
+    for (delivered, received) in [(LOST, 3), (3, LOST), (LOST, LOST)] {
+        for runs in runs_with_gaps(|count| format!("run={count},{delivered},{received}")) {
+            let runs = runs.lines().map(|line| line.as_bytes().to_vec());
+            let lines: Lines = base[..base.len() - 1].iter().cloned().chain(runs).collect();
+            inputs.push(Input {
+                name: format!("gaps {}", inputs.len()),
+                bytes: joined(&lines),
+            });
+        }
+    }
+    inputs
+}
+
+/// June has 2,880 readings, in the first run 68 up to on-peak; July's follow where a gap
+/// goes over the end.
+fn runs_with_gaps(gap: impl Fn(u32) -> String) -> Vec<String> {
+    let july = "bill=2001-07\ncritical=3";
+    vec![
+        // The whole month, its start, its end, and all but one reading.
+        gap(2_880),
+        format!("{}\nrun=2879,7,8", gap(1)),
+        format!("run=2879,7,8\n{}", gap(1)),
+        format!("run=1,7,8\n{}", gap(2_879)),
+        // Into on-peak, across midnight, and two runs of one gap.
+        format!("run=68,900,20\n{}\nrun=2796,0,0", gap(16)),
+        format!("run=90,7,8\n{}\nrun=2778,1,2", gap(12)),
+        format!("run=1,7,8\n{}\n{}\nrun=1,9,9", gap(2_000), gap(878)),
+        // Runs of none, which are no readings.
+        format!("run=0,7,8\n{}", gap(2_880)),
+        format!("{}\nrun=2880,7,8", gap(0)),
+        format!("run=1,7,8\nrun=0,500,600\n{}", gap(2_879)),
+        format!("run=1,7,8\n{}\n{}", gap(0), gap(2_879)),
+        // Beside readings above the limit.
+        format!("{}\nrun=2879,7,1000001", gap(1)),
+        format!("{}\nrun=2879,4294967294,8", gap(1)),
+        format!("run=1,7,1000001\n{}", gap(2_879)),
+        format!("run=1,7,8\n{}\nrun=1,1000001,8", gap(2_878)),
+        format!("run=1,1000000,1000000\n{}", gap(2_879)),
+        // A reading too few, and too many for any month.
+        format!("run=1,7,8\n{}", gap(2_878)),
+        format!("run=1,7,8\n{}\n{}", gap(2_975), gap(1)),
+        // Over the end of the month.
+        format!("run=2800,7,8\n{}\n{july}\n{}", gap(80), gap(2_976)),
+        format!(
+            "run=2800,7,8\n{}\n{july}\n{}\nrun=2975,1,2\n{july}\nrun=1,1,2\n{}",
+            gap(80),
+            gap(1),
+            gap(2_975)
+        ),
+    ]
+}
+
 /// So many random inputs, each from its own seed.
 pub fn random(first_seed: u64, count: u64) -> impl Iterator<Item = Input> {
     (0..count).map(move |index| {
@@ -207,7 +264,8 @@ pub fn book() -> Input {
     for month in 0..=LAST_MONTH + 2 {
         lines.push(format!("bill={}", month_text(month)).into());
         lines.push(format!("critical={}", 1 << (month % 28)).into());
-        runs(&mut random, register_length(month), &mut lines);
+        let length = register_length(month);
+        runs(&mut random, length, &mut lines, sound_reading);
     }
     Input {
         name: "whole book".to_string(),
@@ -321,30 +379,49 @@ fn month_lines(random: &mut Random, month: u32, lines: &mut Lines) {
         0 => random.pick([0, right - 1, right + 1, MOST_READINGS, MOST_READINGS + 1]),
         _ => right,
     };
-    runs(random, length, lines);
+    runs(random, length, lines, reading);
 }
 
+/// A random reading, which may be the first of its month.
+type Reading = fn(&mut Random, bool) -> u32;
+
 /// So many readings in a few runs.
-fn runs(random: &mut Random, length: usize, lines: &mut Lines) {
+fn runs(random: &mut Random, length: usize, lines: &mut Lines, reading: Reading) {
     let mut left = length;
     while left > 0 {
         let some = 1 + random.below(left as u64) as usize;
-        let count = random.pick([some, some, left.min(96), left]);
-        let [delivered, received] = [0, 1].map(|_| reading(random));
-        let count_text = numeral(random, count as u32);
-        lines.push(format!("run={count_text},{delivered},{received}").into());
+        let count = match random.below(40) {
+            0 => 0,
+            _ => random.pick([some, some, left.min(96), left]),
+        };
+        let readings = [0, 1].map(|_| reading(random, left == length));
+        lines.push(run_line(random, count as u32, readings));
         left -= count;
     }
 }
 
-fn reading(random: &mut Random) -> String {
+fn run_line(random: &mut Random, count: u32, [delivered, received]: [u32; 2]) -> Vec<u8> {
+    let numbers = [count, delivered, received].map(|number| numeral(random, number));
+    format!("run={}", numbers.join(",")).into()
+}
+
+/// A reading that no month is refused for.
+fn sound_reading(random: &mut Random, is_first: bool) -> u32 {
     let any = random.up_to(2_000);
-    let largest = match random.below(30) {
+    let largest = random.up_to(LARGEST_READING);
+    match random.below(8) {
+        0 if !is_first => LOST,
+        _ => random.pick([0, 0, any, any, largest]),
+    }
+}
+
+fn reading(random: &mut Random, is_first: bool) -> u32 {
+    match random.below(150) {
         0 => generate::near(random, LARGEST_READING),
-        _ => random.up_to(LARGEST_READING),
-    };
-    let reading = random.pick([0, 0, any, any, largest]);
-    numeral(random, reading)
+        1 => LOST - 1,
+        2 => LOST,
+        _ => sound_reading(random, is_first),
+    }
 }
 
 /// Changes, drops, doubles or moves a line.
@@ -372,9 +449,9 @@ fn damage_line(random: &mut Random, lines: &mut Lines) {
         6 => lines[at] = with_value(random.pick(WORDS).as_bytes()),
         7 => lines.insert(at, Vec::new()),
         8 => {
-            let [delivered, received] = [0, 1].map(|_| reading(random));
-            let run = format!("run={},{delivered},{received}", random.pick(COUNTS));
-            lines.insert(at, run.into());
+            let readings = [0, 1].map(|_| reading(random, false));
+            let count = random.pick(COUNTS);
+            lines.insert(at, run_line(random, count, readings));
         }
         9 => {
             lines[at] = [
@@ -416,5 +493,20 @@ fn damage_byte(random: &mut Random, bytes: &mut Vec<u8>) {
                 .collect::<Vec<_>>()
                 .join(&b"\r\n"[..])
         }
+    }
+}
+
+#[cfg(test)]
+mod tests {
+    use super::*;
+    use harness::reference::statement::statement;
+
+    /// Every month is accepted, and the two after the last find the book full.
+    #[test]
+    fn the_whole_book_is_billed() {
+        let printed = statement(&book().bytes);
+        let printed = String::from_utf8_lossy(&printed);
+        let count = |answer: &str| printed.lines().filter(|line| line.contains(answer)).count();
+        assert_eq!((count(" answer=0 "), count(" answer=11 ")), (1_200, 2));
     }
 }

@@ -52,13 +52,15 @@ impl Session {
             session.compare(input, Feeding::File);
             session.compare(input, Feeding::Pieces(seed));
         }
+        let changes = inputs::changes().into_iter().chain(inputs::gaps());
+        for input in changes.chain(inputs::random(0, FIXED_RANDOM)) {
+            session.compare_all(&input);
+        }
+        // The largest come when few wrong variants are left to be tried on them.
         let book = inputs::book();
         session.compare(&book, Feeding::Pieces(seed));
         session.unread(&book);
-        for input in inputs::changes().into_iter().chain([book, inputs::long()]) {
-            session.compare_all(&input);
-        }
-        for input in inputs::random(0, FIXED_RANDOM) {
+        for input in [book, inputs::long()] {
             session.compare_all(&input);
         }
         // One that isn't prompt can cost the whole time limit.

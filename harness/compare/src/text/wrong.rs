@@ -2,6 +2,7 @@
 //! mistake: the input is changed to one that means what the variant takes it to mean, or
 //! the printed text is. A comparison that doesn't notice one of them is worth nothing.
 
+use harness::reference::gaps::LOST;
 use harness::reference::statement::{statement, MOST_READINGS};
 
 /// What the variant prints for an input.
@@ -225,13 +226,62 @@ pub const ALL: &[Wrong] = &[
         by_run(input, |_, count| Some(count.max(1)))
     }),
     ("delivered and received are exchanged", |input| {
-        by_value(input, |key, value| {
-            let items: Vec<&[u8]> = value.split(|&byte| byte == b',').collect();
-            match (key, &items[..]) {
-                (b"run", &[count, delivered, received]) => [count, received, delivered].join(&b','),
-                _ => value.to_vec(),
-            }
+        by_readings(input, |_, [delivered, received]| [received, delivered])
+    }),
+    // Gaps.
+    ("a lost reading counts as 0", |input| {
+        by_readings(input, |_, readings| {
+            readings.map(|reading| if reading == LOST { 0 } else { reading })
         })
+    }),
+    ("a lost reading counts as that beside it", |input| {
+        by_readings(input, |_, readings| match readings {
+            [LOST, other] | [other, LOST] => [other; 2],
+            _ => readings,
+        })
+    }),
+    ("the mark is refused by 10", |input| {
+        by_readings(input, |_, readings| {
+            readings.map(|reading| reading.min(LOST - 1))
+        })
+    }),
+    ("a gap goes on from the month before", |input| {
+        let mut last = [LOST; 2];
+        by_readings(input, |count, mut readings| {
+            for (reading, last) in readings.iter_mut().zip(&mut last) {
+                match count {
+                    0 => {}
+                    _ if *reading == LOST => *reading = *last,
+                    _ => *last = *reading,
+                }
+            }
+            readings
+        })
+    }),
+    ("a gap after a run of none counts as its reading", |input| {
+        let mut none = [LOST; 2];
+        by_readings(input, |count, mut readings| {
+            for (reading, none) in readings.iter_mut().zip(&mut none) {
+                match count {
+                    0 => *none = *reading,
+                    _ if *reading == LOST => *reading = *none,
+                    _ => *none = LOST,
+                }
+            }
+            readings
+        })
+    }),
+    ("a count of 4294967295 is lost", |input| {
+        by_run(input, |_, count| match count == u64::from(LOST) {
+            true => Some(0),
+            false => Some(count),
+        })
+    }),
+    ("critical days of 4294967295 are lost", |input| {
+        with_line(input, b"critical=4294967295", b"critical=0")
+    }),
+    ("a nameplate of 4294967295 is lost", |input| {
+        with_line(input, b"nameplate=4294967295", b"nameplate=8000")
     }),
     // Order of lines, and what each is for.
     ("rider and class in either order", |input| {
@@ -509,9 +559,8 @@ fn by_run(input: &[u8], change: fn(u64, u64) -> Option<u64>) -> Vec<u8> {
         let Some((count, readings)) = text.and_then(|text| text.split_once(',')) else {
             return line.to_vec();
         };
-        let is_number = count.len() <= 10 && count.bytes().all(|byte| byte.is_ascii_digit());
-        match count.parse::<u32>() {
-            Ok(count) if is_number && before <= MOST_READINGS as u64 => {
+        match number(count) {
+            Some(count) if before <= MOST_READINGS as u64 => {
                 let Some(count) = change(before, u64::from(count)) else {
                     return UNREADABLE.to_vec();
                 };
@@ -521,6 +570,27 @@ fn by_run(input: &[u8], change: fn(u64, u64) -> Option<u64>) -> Vec<u8> {
             _ => line.to_vec(),
         }
     })
+}
+
+/// With the two readings of each run changed, given its count.
+fn by_readings(input: &[u8], mut change: impl FnMut(u32, [u32; 2]) -> [u32; 2]) -> Vec<u8> {
+    by_value(input, |key, value| {
+        let items = std::str::from_utf8(value).unwrap_or_default().split(',');
+        let numbers: Option<Vec<u32>> = items.map(number).collect();
+        match (key, numbers.as_deref()) {
+            (b"run", Some(&[count, delivered, received])) => {
+                let [delivered, received] = change(count, [delivered, received]);
+                format!("{count},{delivered},{received}").into_bytes()
+            }
+            _ => value.to_vec(),
+        }
+    })
+}
+
+/// 1 to 10 digits that fit 32 bits.
+fn number(text: &str) -> Option<u32> {
+    let is_number = text.len() <= 10 && text.bytes().all(|byte| byte.is_ascii_digit());
+    text.parse().ok().filter(|_| is_number)
 }
 
 fn items(value: &[u8]) -> usize {

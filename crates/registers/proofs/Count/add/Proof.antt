@@ -1,19 +1,26 @@
 -- `registers::Count::add` goes by the reading's period.
+use mathlib.Core.Path.{refl}
 use borrow.Author.Needs.{needs}
 use native.Mathlib.Omega.{arith}
 use borrow.Author.Tests.{ne-eqb}
 use Rattle.registers.proofs.Count.add.Statement.{statement}
 use Rattle.registers.proofs.Count.add.Tie as tie
 
+counts-after-requires : tie.Need-counts-after-requires
+counts-after-requires c κs = search needs
+
 some-above-requires : tie.Need-some-above-requires
 some-above-requires c κs = search needs
+
+cast-offpeak : tie.Need-cast-offpeak
+cast-offpeak c = search needs
 
 add-offpeak : tie.Need-add-offpeak
 add-offpeak c = search needs
 
 returns : tie.Need-returns
 returns c =
-    rw (c .before .if1 .taken)
+    rw (c .before .if1 .taken, ← (c .before .before .before .counts-after .ensures))
     (record {
       critical = omega arith;
       onpeak = omega arith;
@@ -21,14 +28,18 @@ returns c =
       discount = omega arith;
       peak = omega arith;
       above = c .before .before .some-above .ensures;
+      last = refl;
     })
+
+cast-discount : tie.Need-cast-discount
+cast-discount c = search needs
 
 add-discount : tie.Need-add-discount
 add-discount c = search needs
 
 returns-2 : tie.Need-returns-2
 returns-2 c =
-    rw (c .before .if2 .taken)
+    rw (c .before .if2 .taken, ← (c .before .before .before .before .counts-after .ensures))
     (record {
       critical = omega arith;
       onpeak = omega arith;
@@ -36,6 +47,7 @@ returns-2 c =
       discount = omega arith;
       peak = omega arith;
       above = c .before .before .before .some-above .ensures;
+      last = refl;
     })
 
 in-period-requires : tie.Need-in-period-requires
@@ -60,22 +72,27 @@ returns-3 : tie.Need-returns-3
 returns-3 c =
     let off = c .before .before .before .before .before .before .before .if1 .left in
     let dis = c .before .before .before .before .before .before .if2 .left in
-    record {
+    rw (← (c .before .before .before .before .before .before .before .before .before .counts-after .ensures))
+    (record {
       critical = search needs;
       onpeak = search needs;
       offpeak = simp (ne-eqb _ _ off) (omega arith);
       discount = simp (ne-eqb _ _ dis) (omega arith);
       peak = search needs;
       above = search needs;
-    }
+      last = refl;
+    })
 
 pub add-spec : {M : Type 1} → statement M
 add-spec =
     tie.close
     (tie.spec
+    counts-after-requires
     some-above-requires
+    cast-offpeak
     add-offpeak
     returns
+    cast-discount
     add-discount
     returns-2
     in-period-requires
