@@ -23,7 +23,7 @@ lostMark = 4294967295
 unfoldable pub isLost : List ℕ → ℕ → Bool
 isLost r i = eqb (reading r i) lostMark
 
--- Of the first i readings, the last that isn't lost. Our reading: 0 if there is none, which refusal 13 sees to.
+-- Of the first i readings, the last that isn't lost. Our reading: 0 if there is none; such a register is refused by 13.
 unfoldable pub lastKnown : List ℕ → ℕ → ℕ
 lastKnown r zero = 0
 lastKnown r (suc i) = cond (isLost r i) (lastKnown r i) (reading r i)
