@@ -116,6 +116,11 @@ lengthBy-le Unchanged = omega arith
 lengthBy-le Forward = omega arith
 lengthBy-le Back = omega arith
 
+pub lengthBy-even : (k : Clock) → lengthBy k % 2 ≡ 0
+lengthBy-even Unchanged = refl
+lengthBy-even Forward = refl
+lengthBy-even Back = refl
+
 pub dayLength-le : (m d : ℕ) → dayLength m d ≤ 100
 unfolding dayLength
 dayLength-le m d = lengthBy-le (clockOf m d)

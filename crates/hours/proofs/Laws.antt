@@ -72,6 +72,12 @@ pub period-is : (schedule : List ℕ) (m x d j : ℕ) {row : ℕ} {c : Bool} {q 
 unfolding periodOf
 period-is schedule m x d j a b e g = cc
 
+-- A critical day changes on-peak alone.
+pub period-stays : (c : Bool) (p : ℕ) → (p ≡ 1 → ⊥) → periodOnDay c p ≡ p
+unfolding periodOnDay
+period-stays true p h = rw (ne-eqb p 1 h)
+period-stays false p h = refl
+
 -- Periods 0 and 1 are those up to on-peak.
 pub is-peak : (p : ℕ) → p ≤ 1 → isPeak p ≡ true
 is-peak zero h = refl
