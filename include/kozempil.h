@@ -129,7 +129,7 @@ enum {
 
     /* of a billing, in cents */
     KOZEMPIL_ANSWER_ENERGY = 45,
-    KOZEMPIL_ANSWER_DEMAND = 46,
+    KOZEMPIL_ANSWER_DEMAND = 46,                /* for twice the most Wh delivered in a half-hour that is critical or on-peak, as W */
     KOZEMPIL_ANSWER_STANDBY = 47,
     KOZEMPIL_ANSWER_BYPASS = 48,
     KOZEMPIL_ANSWER_SHORTFALL = 49,

@@ -163,7 +163,8 @@ static void codes_and_places_of_an_opening(void)
  *   moved out      0 12,000      0      0
  *   moved in       0      0  6,000  6,000
  *   billed     7,000      0      0  2,000    energy: 7,000 x 40,000 + 2,000 x 10,000 = 300,000,000, which is 300 cents
- * Demand: the largest critical or on-peak reading is 8,000 Wh, so 32,000 W at 5,000: 160 cents. Basic 1,400. Gross and due 1,860. */
+ * Demand: the largest critical or on-peak half-hour, quarters 70 and 71 of day 1, has 8,000 + 0 Wh, so 16,000 W at 5,000: 80 cents. Basic 1,400.
+ * Gross and due 1,780. */
 static void rows_of_a_banked_bill(void)
 {
     static const uint64_t rows[][5] = {
@@ -196,9 +197,9 @@ static void rows_of_a_banked_bill(void)
         for (int period = KOZEMPIL_PERIOD_CRITICAL; period <= KOZEMPIL_PERIOD_DISCOUNT; period++)
             same("row of a banked bill", answer[rows[row][0] + (uint64_t)period], rows[row][1 + period]);
     same("energy", answer[KOZEMPIL_ANSWER_ENERGY], 300);
-    same("demand", answer[KOZEMPIL_ANSWER_DEMAND], 160);
-    same("gross", answer[KOZEMPIL_ANSWER_GROSS], 1860);
-    same("due", answer[KOZEMPIL_ANSWER_DUE], 1860);
+    same("demand", answer[KOZEMPIL_ANSWER_DEMAND], 80);
+    same("gross", answer[KOZEMPIL_ANSWER_GROSS], 1780);
+    same("due", answer[KOZEMPIL_ANSWER_DUE], 1780);
     same("next month", after[KOZEMPIL_ACCOUNT_NEXT], JANUARY + 1);
 
     /* June: what is carried is forfeited, and what June exports is left. June 2000 has 30 days. */

@@ -61,7 +61,8 @@ repriced a l =
 unfoldable pub scheduleOf : Account → List ℕ
 scheduleOf a = fixedSchedule
 
--- Steps 1 to 8 on an account. Step 2: "Delivered and exported for each period are the sums of the two registers over its quarters."
+-- Steps 1 to 8 on an account. Step 2: "Delivered and exported for each period are the sums of the two registers over its quarters." Step 6, with 02 No. 6:
+-- the demand is that of the delivered register.
 unfoldable pub billOf : Account → ℕ → List ℕ → List ℕ → ℕ → Bill
 billOf a m delivered received x =
     billFrom (a .terms) (a .prices) (a .carried) (a .standing) m

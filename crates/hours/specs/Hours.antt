@@ -53,7 +53,7 @@ rowStart Winter Weekend = 96
 rowStart Summer Weekday = 192
 rowStart Summer Weekend = 288
 
--- The periods of step 6's demand, "periods 0 and 1".
+-- 02 No. 6: "critical or on-peak", the periods that make a pair count in step 6.
 abbrev pub isPeak : ℕ → Bool
 isPeak p = eqb p critical || eqb p onPeak
 

@@ -2,7 +2,7 @@
 use mathlib.Core.Path.{_≡_, refl, sym, _∙_}
 use mathlib.Core.Bool.{Bool, true, false, cond}
 use mathlib.Core.List.{List}
-use Prim.Native.Nat.{ℕ, zero, suc, _+_, _<_}
+use Prim.Native.Nat.{ℕ, zero, suc, _+_, _*_, _/_, _<_}
 use native.Mathlib.Nat.{add-zero, add-assoc}
 use native.Mathlib.Numerals.{add-one}
 use native.Mathlib.Omega.{arith}
@@ -10,7 +10,7 @@ use borrow.Author.Tests.{eq-eqb, ne-eqb}
 use lib.Dec.{eqb}
 use lib.ListN.{getD}
 use Rattle.calendar.specs.Calendar.{daysIn, dayLength, readingsThrough}
-use Rattle.registers.specs.Registers.{reading, lostMark, isLost, lastKnown, countsAs, daySum, daysSum, sumOf, dayPeak, daysPeak, demandPower}
+use Rattle.registers.specs.Registers.{reading, lostMark, isLost, lastKnown, countsAs, daySum, daysSum, sumOf, pairSum, dayLargest, daysLargest, demandPower}
 use Rattle.registers.proofs.Laws.{known-more}
 
 -- Where reading j isn't the mark and the k after it are, the last of them counts as reading j. (Where k is 0, that is reading j itself.)
@@ -32,7 +32,7 @@ unfolding lastKnown isLost
 known-no-mark r zero = refl
 known-no-mark r (suc i) = one-of (eqb (reading r i) lostMark) (lastKnown r i) (reading r i) (known-no-mark r i) refl
 
--- A register f that has in each place what r counts as there: day by day its sums and its largest reading are those of r.
+-- A register f that has in each place what r counts as there: day by day its sums and its largest pair are those of r.
 abbrev Filled : List ℕ → List ℕ → Type 0
 Filled r f = (i : ℕ) → getD f i 0 ≡ countsAs r i
 
@@ -51,16 +51,20 @@ days-sum-alike schedule m x r f filled p zero = refl
 days-sum-alike schedule m x r f filled p (suc n) =
     rw (days-sum-alike schedule m x r f filled p n, sum-alike schedule m x r f filled p n (dayLength m (suc n)))
 
-peak-alike : (schedule : List ℕ) (m x : ℕ) (r f : List ℕ) → Filled r f → (n j : ℕ) → dayPeak schedule m x f n j ≡ dayPeak schedule m x r n j
-unfolding dayPeak
-peak-alike schedule m x r f filled n zero = refl
-peak-alike schedule m x r f filled n (suc j) = rw (peak-alike schedule m x r f filled n j, counts-alike r f filled (readingsThrough m n + j))
+pair-alike : (m : ℕ) (r f : List ℕ) → Filled r f → (n h : ℕ) → pairSum m f n h ≡ pairSum m r n h
+unfolding pairSum
+pair-alike m r f filled n h = rw (counts-alike r f filled (readingsThrough m n + 2 * h), counts-alike r f filled (readingsThrough m n + (2 * h + 1)))
 
-days-peak-alike : (schedule : List ℕ) (m x : ℕ) (r f : List ℕ) → Filled r f → (n : ℕ) → daysPeak schedule m x f n ≡ daysPeak schedule m x r n
-unfolding daysPeak
-days-peak-alike schedule m x r f filled zero = refl
-days-peak-alike schedule m x r f filled (suc n) =
-    rw (days-peak-alike schedule m x r f filled n, peak-alike schedule m x r f filled n (dayLength m (suc n)))
+largest-alike : (schedule : List ℕ) (m x : ℕ) (r f : List ℕ) → Filled r f → (n h : ℕ) → dayLargest schedule m x f n h ≡ dayLargest schedule m x r n h
+unfolding dayLargest
+largest-alike schedule m x r f filled n zero = refl
+largest-alike schedule m x r f filled n (suc h) = rw (largest-alike schedule m x r f filled n h, pair-alike m r f filled n h)
+
+days-largest-alike : (schedule : List ℕ) (m x : ℕ) (r f : List ℕ) → Filled r f → (n : ℕ) → daysLargest schedule m x f n ≡ daysLargest schedule m x r n
+unfolding daysLargest
+days-largest-alike schedule m x r f filled zero = refl
+days-largest-alike schedule m x r f filled (suc n) =
+    rw (days-largest-alike schedule m x r f filled n, largest-alike schedule m x r f filled n (dayLength m (suc n) / 2))
 
 -- "Sums, the demand reading and the exported and delivered totals of the ledger are all taken from the filled readings": the sums and the demand's
 -- power of a register are those of the register filled.
@@ -68,4 +72,4 @@ pub filled-alike : (schedule : List ℕ) (m x : ℕ) (r f : List ℕ) → ((i : 
     → ((p : ℕ) → sumOf schedule m x r p ≡ sumOf schedule m x f p) × (demandPower schedule m x r ≡ demandPower schedule m x f)
 unfolding sumOf demandPower
 filled-alike schedule m x r f e =
-    (λ p. sym (days-sum-alike schedule m x r f e p (daysIn m)), rw (days-peak-alike schedule m x r f e (daysIn m)))
+    (λ p. sym (days-sum-alike schedule m x r f e p (daysIn m)), rw (days-largest-alike schedule m x r f e (daysIn m)))

@@ -3,8 +3,8 @@ use mathlib.Core.Path.{_≡_, refl, ap, _∙_, sym}
 use mathlib.Core.Bool.{Bool, true, false, cond, not, _&&_, _||_}
 use mathlib.Core.List.{List}
 use mathlib.Core.Logic.{⊎-elim}
-use Prim.Native.Nat.{ℕ, zero, suc, _+_, _*_, _≤_, _<_, max}
-use native.Mathlib.Nat.{le-of-suc-le-suc, eq-or-lt-of-le}
+use Prim.Native.Nat.{ℕ, zero, suc, _+_, _*_, _/_, _%_, _≤_, _<_, max}
+use native.Mathlib.Nat.{add-assoc, le-of-suc-le-suc, eq-or-lt-of-le}
 use native.Mathlib.Numerals.{add-one}
 use native.Mathlib.Omega.{arith}
 use borrow.Author.Tests.{eq-eqb, ne-eqb, le-ltb, ltb-false, leb-true, leb-false}
@@ -16,7 +16,7 @@ use Rattle.calendar.proofs.Laws.{through-next, monthLength-is, monthLength-le}
 use Rattle.hours.specs.Hours.{isPeak, periodOf, byPeriod}
 use Rattle.registers.specs.declared.Tally.{Tally}
 use Rattle.registers.specs.Counting.{countsAfter}
-use Rattle.registers.specs.Registers.{reading, isLost, lastKnown, countsAs, daySum, daysSum, sumOf, dayPeak, daysPeak, demandPower}
+use Rattle.registers.specs.Registers.{reading, isLost, lastKnown, countsAs, daySum, daysSum, sumOf, pairCounts, pairSum, dayLargest, daysLargest, demandPower}
 use Rattle.registers.specs.Registers.{readingLimit, monthLimit, someAbove, readingRefused, firstLost, lengthRefused, tallyOf}
 
 -- What a reading counts as, from the last one before it that isn't lost.
@@ -32,8 +32,16 @@ pub counts-as : (r : List ℕ) (i : ℕ) {last : ℕ} → last ≡ lastKnown r i
 unfolding countsAfter countsAs isLost reading
 counts-as r i e = rw e
 
+-- A reading within the limit isn't lost.
+pub counts-itself : (last v : ℕ) → v ≤ readingLimit → countsAfter last v ≡ v
+unfolding countsAfter
+counts-itself last v h = rw (ne-eqb v 4294967295 (omega arith))
+
+pub counts-next : (r : List ℕ) (i j : ℕ) {last : ℕ} → last ≡ countsAs r (i + j) → countsAfter last (getD r (i + (j + 1)) 0) ≡ countsAs r (i + (j + 1))
+counts-next r i j e = counts-as r _ (rw (← (add-assoc i j 1), known-more) e)
+
 -- A bound of all that stands in a register bounds what its readings count as.
-cond-le : (b : Bool) (v w bound : ℕ) → v ≤ bound → w ≤ bound → cond b v w ≤ bound
+pub cond-le : (b : Bool) (v w bound : ℕ) → v ≤ bound → w ≤ bound → cond b v w ≤ bound
 cond-le true v w bound h k = h
 cond-le false v w bound h k = k
 
@@ -67,24 +75,30 @@ module _ (schedule : List ℕ) (m x : ℕ) (r : List ℕ) where
   unfolding daysSum
   days-sum-more p n = simp add-one
 
-  -- The same of the largest reading in periods 0 and 1.
-  pub peak-none : (n : ℕ) → dayPeak schedule m x r n 0 ≡ 0
-  unfolding dayPeak
-  peak-none n = refl
+  -- The same of the largest sum of a pair that counts. A pair begins at an even place j.
+  pub largest-none : (n : ℕ) → dayLargest schedule m x r n 0 ≡ 0
+  unfolding dayLargest
+  largest-none n = refl
 
-  pub peak-more : (n j : ℕ) →
-      dayPeak schedule m x r n (j + 1)
-      ≡ max (dayPeak schedule m x r n j) (cond (isPeak (periodOf schedule m x (n + 1) j)) (countsAs r (readingsThrough m n + j)) 0)
-  unfolding dayPeak
-  peak-more n j = simp add-one
+  pub largest-more : (n j : ℕ) → j % 2 ≡ 0 →
+      dayLargest schedule m x r n ((j + 2) / 2)
+      ≡ max (dayLargest schedule m x r n (j / 2))
+      (cond (isPeak (periodOf schedule m x (n + 1) j) || isPeak (periodOf schedule m x (n + 1) (j + 1)))
+      (countsAs r (readingsThrough m n + j) + countsAs r (readingsThrough m n + (j + 1)))
+      0)
+  unfolding dayLargest pairCounts pairSum
+  largest-more n j e =
+      let next : (j + 2) / 2 ≡ suc (j / 2) = omega arith in
+      let place : 2 * (j / 2) ≡ j = omega arith in
+      rw (next, place) (simp add-one)
 
-  pub days-peak-none : daysPeak schedule m x r 0 ≡ 0
-  unfolding daysPeak
-  days-peak-none = refl
+  pub days-largest-none : daysLargest schedule m x r 0 ≡ 0
+  unfolding daysLargest
+  days-largest-none = refl
 
-  pub days-peak-more : (n : ℕ) → daysPeak schedule m x r (n + 1) ≡ max (daysPeak schedule m x r n) (dayPeak schedule m x r n (dayLength m (n + 1)))
-  unfolding daysPeak
-  days-peak-more n = simp add-one
+  pub days-largest-more : (n : ℕ) → daysLargest schedule m x r (n + 1) ≡ max (daysLargest schedule m x r n) (dayLargest schedule m x r n (dayLength m (n + 1) / 2))
+  unfolding daysLargest
+  days-largest-more n = simp add-one
 
 -- Where none of the first readings is above the limit, the last of them that isn't lost is not.
 known-within : (r : List ℕ) (i : ℕ) → someAbove r i ≡ false → lastKnown r i ≤ readingLimit
@@ -158,21 +172,25 @@ unfolding sumOf
 sum-within schedule m x r e p =
     omega (arith, days-sum-le schedule m x r readingLimit (readings-within r e) p (daysIn m), monthLength-is m, monthLength-le m)
 
--- The demand's power has at most four times the bound of a reading.
+-- The demand's power is twice the sum of two readings, each within the bound.
 module _ (schedule : List ℕ) (m x : ℕ) (r : List ℕ) (bound : ℕ) (within : (i : ℕ) → countsAs r i ≤ bound) where
-  day-peak-le : (n j : ℕ) → dayPeak schedule m x r n j ≤ bound
-  unfolding dayPeak
-  day-peak-le n zero = omega arith
-  day-peak-le n (suc j) = omega (arith, day-peak-le n j, cond-le (isPeak (periodOf schedule m x (suc n) j)) (countsAs r (readingsThrough m n + j)) 0 bound (within _) (omega arith))
+  pair-le : (n h : ℕ) → pairSum m r n h ≤ 2 * bound
+  unfolding pairSum
+  pair-le n h = omega (arith, within (readingsThrough m n + 2 * h), within (readingsThrough m n + (2 * h + 1)))
 
-  days-peak-le : (n : ℕ) → daysPeak schedule m x r n ≤ bound
-  unfolding daysPeak
-  days-peak-le zero = omega arith
-  days-peak-le (suc n) = omega (arith, days-peak-le n, day-peak-le n (dayLength m (suc n)))
+  day-largest-le : (n h : ℕ) → dayLargest schedule m x r n h ≤ 2 * bound
+  unfolding dayLargest
+  day-largest-le n zero = omega arith
+  day-largest-le n (suc h) = omega (arith, day-largest-le n h, cond-le (pairCounts schedule m x n h) (pairSum m r n h) 0 (2 * bound) (pair-le n h) (omega arith))
+
+  days-largest-le : (n : ℕ) → daysLargest schedule m x r n ≤ 2 * bound
+  unfolding daysLargest
+  days-largest-le zero = omega arith
+  days-largest-le (suc n) = omega (arith, days-largest-le n, day-largest-le n (dayLength m (suc n) / 2))
 
   pub power-le : demandPower schedule m x r ≤ 4 * bound
   unfolding demandPower
-  power-le = omega (arith, days-peak-le (daysIn m))
+  power-le = omega (arith, days-largest-le (daysIn m))
 
 pub power-within : (schedule : List ℕ) (m x : ℕ) (r : List ℕ) → readingRefused r ≡ false → demandPower schedule m x r ≤ 4 * readingLimit
 power-within schedule m x r e = power-le schedule m x r readingLimit (readings-within r e)

@@ -1,5 +1,6 @@
 mod Counting
 pub mod Gaps
+pub mod HalfHours
 pub mod Laws
 pub mod Totals
 pub mod View

@@ -1,9 +1,9 @@
 -- Document 01, "Billing" and the table of refusals: what a bill reads from one register, which is step 2, the demand of step 6, and
--- refusals 8 and 10; and 02 No. 4, lost readings and refusal 13. m is a month, x the number that names its critical days, r the readings of a
--- register, p a period.
+-- refusals 8 and 10; 02 No. 4, lost readings and refusal 13; and 02 No. 6, the pairs of step 6. m is a month, x the number that names its
+-- critical days, r the readings of a register, p a period.
 use mathlib.Core.Bool.{Bool, true, false, cond, not, _&&_, _||_}
 use mathlib.Core.List.{List}
-use Prim.Native.Nat.{ℕ, zero, suc, _+_, _*_, max}
+use Prim.Native.Nat.{ℕ, zero, suc, _+_, _*_, _/_, max}
 use lib.Dec.{eqb, ltb}
 use lib.ListN.{length, getD}
 use Rattle.calendar.specs.Calendar.{daysIn, dayLength, readingsThrough, monthLength, mostReadings}
@@ -29,13 +29,14 @@ lastKnown r zero = 0
 lastKnown r (suc i) = cond (isLost r i) (lastKnown r i) (reading r i)
 
 -- What reading i counts as: itself or, where it is lost, "the last reading before it in that register which isn't lost". "Sums, the demand
--- reading and the exported and delivered totals of the ledger are all taken from" this. r is one month's register, so a gap is filled across
--- days and never across months (our reading). The theorems `gap-filled` and `filled-alike` say the same of whole gaps and registers.
+-- reading" (since No. 6 both readings of a pair) "and the exported and delivered totals of the ledger are all taken from" this. r is one month's
+-- register, so a gap is filled across days and never across months (our reading). The theorems `gap-filled` and `filled-alike` say the same of whole
+-- gaps and registers.
 unfoldable pub countsAs : List ℕ → ℕ → ℕ
 countsAs r i = cond (isLost r i) (lastKnown r i) (reading r i)
 
--- The sums and the largest reading go day by day. n days come before the day that is meant, so that it is day n + 1; j is the number
--- of its readings that have been passed. schedule has the hours.
+-- Sums and demand go day by day. n days come before the day that is meant, so that it is day n + 1; j is the number of its readings that have
+-- been passed. schedule has the hours.
 module _ (schedule : List ℕ) (m x : ℕ) (r : List ℕ) where
   -- Step 2, for one day: the sum of those of its first j readings that are in period p.
   unfoldable pub daySum : ℕ → ℕ → ℕ → ℕ
@@ -51,20 +52,32 @@ module _ (schedule : List ℕ) (m x : ℕ) (r : List ℕ) where
   unfoldable pub sumOf : ℕ → ℕ
   sumOf p = daysSum p (daysIn m)
 
-  -- Step 6, for one day: the largest of those of its first j readings that are in periods 0 and 1, or 0.
-  unfoldable pub dayPeak : ℕ → ℕ → ℕ
-  dayPeak n zero = 0
-  dayPeak n (suc j) = max (dayPeak n j) (cond (isPeak (periodOf schedule m x (suc n) j)) (countsAs r (readingsThrough m n + j)) 0)
+-- 02 No. 6: "Pair quarters 0 and 1, 2 and 3, and so on through the day's readings." Pair h of a day, a half-hour, is its readings 2 × h and
+-- 2 × h + 1 by place, also where the clocks change: none crosses midnight, and the hour that comes twice has pairs of its own (our reading).
+-- "A pair counts if either quarter is critical or on-peak."
+unfoldable pub pairCounts : List ℕ → ℕ → ℕ → ℕ → ℕ → Bool
+pairCounts schedule m x n h = isPeak (periodOf schedule m x (suc n) (2 * h)) || isPeak (periodOf schedule m x (suc n) (2 * h + 1))
 
-  -- Step 6, for the first n days.
-  unfoldable pub daysPeak : ℕ → ℕ
-  daysPeak zero = 0
-  daysPeak (suc n) = max (daysPeak n) (dayPeak n (dayLength m (suc n)))
+-- The sum of a pair: both readings, whatever the period of either quarter (our reading).
+unfoldable pub pairSum : ℕ → List ℕ → ℕ → ℕ → ℕ
+pairSum m r n h = countsAs r (readingsThrough m n + 2 * h) + countsAs r (readingsThrough m n + (2 * h + 1))
 
-  -- Step 6, for the month: the power in W that the demand line prices, "4 × the largest delivered reading in periods 0 and 1", and
-  -- "0 if there is no such reading".
+module _ (schedule : List ℕ) (m x : ℕ) (r : List ℕ) where
+  -- Step 6, for one day: the largest sum of those of its first h pairs that count, or 0.
+  unfoldable pub dayLargest : ℕ → ℕ → ℕ
+  dayLargest n zero = 0
+  dayLargest n (suc h) = max (dayLargest n h) (cond (pairCounts schedule m x n h) (pairSum m r n h) 0)
+
+  -- Step 6, for the first n days. A day of 92, 96 or 100 readings has half as many pairs.
+  unfoldable pub daysLargest : ℕ → ℕ
+  daysLargest zero = 0
+  daysLargest (suc n) = max (daysLargest n) (dayLargest n (dayLength m (suc n) / 2))
+
+  -- Step 6, for the month: the power in W that the demand line prices, "twice the largest delivered sum of a pair that counts"; if none counts, it
+  -- is 0, and so "the line is 0". The theorem `half-hours` says the same without the definitions of pairs: it is the least power that is at least twice
+  -- the sum of each pair that counts.
   unfoldable pub demandPower : ℕ
-  demandPower = 4 * daysPeak (daysIn m)
+  demandPower = 2 * daysLargest (daysIn m)
 
 -- "each reading at most 1,000,000"
 abbrev pub readingLimit : ℕ

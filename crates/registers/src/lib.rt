@@ -1,16 +1,17 @@
 // What a bill reads from a register, and the day view. Registers are lent and only read.
 ghost use mathlib.Core.Path.{_≡_};
 ghost use mathlib.Core.Bool.{cond, _||_};
-ghost use Prim.Native.Nat.{_+_, _<_, _≤_, max};
+ghost use Prim.Native.Nat.{_+_, _%_, _<_, _≤_, max};
 ghost use lib.Dec.{eqb, ltb};
 ghost use lib.ListN.{length};
 ghost use Rattle.calendar.specs.Calendar.{daysIn, clockOf, dayLength, readingsThrough, monthLength};
-ghost use Rattle.hours.specs.Hours.{isPeak};
+ghost use Rattle.hours.specs.Hours.{isPeak, periodOnDay};
 ghost use Rattle.registers.specs.Registers.{readingLimit, firstLost, tallyOf};
 ghost use Rattle.registers.specs.DayView.{emptyView, viewOf, IsPart};
-ghost use Rattle.registers.specs.Counting.{Room, countsAfter, Added, Counted, DayCounted, Follows};
+ghost use Rattle.registers.specs.Counting.{Room, countsAfter, Added, AddedPair, FilledPair, Counted, DayCounted, Follows};
 use calendar::Clock;
 use hours::ByPeriod;
+use hours::DayHours;
 
 // The largest reading that is accepted, in Wh, beside the mark of a lost one.
 const READING_LIMIT: u32 = 1_000_000;
@@ -31,14 +32,14 @@ pub struct Tally {
     pub power: u64,
 }
 
-// What the readings so far come to: sums by period, the largest in periods 0 and 1, whether one is above the limit, and the last one that
-// isn't lost, or 0.
+// What the readings so far come to: sums by period, the largest sum of a pair that counts, whether a reading is above the limit, and what the
+// last one counts as, or 0.
 struct Count {
     critical: u64,
     onpeak: u64,
     offpeak: u64,
     discount: u64,
-    peak: u64,
+    largest: u64,
     above: bool,
     last: u32,
 }
@@ -61,19 +62,30 @@ fn first_lost(register: &[u32]) -> bool
 }
 
 // The amount where the period is the one wanted, else 0.
-fn in_period(period: u8, wanted: u8, amount: u32) -> u64
+fn in_period(period: u8, wanted: u8, amount: u64) -> u64
     ensures { λ r. ⌜ r ≡ cond (eqb period wanted) amount 0 ⌝ }
     ensures { λ r. ⌜ r ≤ amount ⌝ }
 {
-    if period == wanted { amount as u64 } else { 0 }
+    if period == wanted { amount } else { 0 }
 }
 
-// The reading where its period is 0 or 1, else 0.
-fn peak_reading(period: u8, reading: u32) -> u64
-    ensures { λ r. ⌜ r ≡ cond (isPeak period) reading 0 ⌝ }
+// The sum of a pair.
+fn pair_sum(reading: u32, next: u32) -> u64
+    ensures { λ r. ⌜ r ≡ reading + next ⌝ }
 {
+    reading as u64 + next as u64
+}
+
+// The sum of a pair where it counts, which it does if either period is 0 or 1, else 0.
+fn counting_sum(period: u8, next_period: u8, reading: u32, next: u32) -> u64
+    ensures { λ r. ⌜ r ≡ cond (isPeak period || isPeak «next_period») (reading + next) 0 ⌝ }
+{
+    let both = pair_sum(reading, next);
     if period <= hours::ON_PEAK {
-        reading as u64
+        return both;
+    }
+    if next_period <= hours::ON_PEAK {
+        both
     } else {
         0
     }
@@ -97,56 +109,129 @@ fn some_above(before: bool, reading: u32) -> bool
 }
 
 impl Count {
-    // The count with one reading more. A lost one is asked for the limit as what it counts as, which was asked before: so the mark itself is
-    // passed over. Most readings are off-peak or discount, and their runs are long: these tests come first.
+    // The count with one reading more; its pair is not asked. A lost one is asked for the limit as what it counts as, which was asked before: so the
+    // mark itself is passed over.
     fn add(self, period: u8, reading: u32) -> Count
-        requires { ⌜ Room self ⌝ }
+        requires { ⌜ Room 1 self ⌝ }
         ensures { λ r. ⌜ Added self period (countsAfter (self .last) reading) r ⌝ }
     {
         let counted = counts_after(self.last, reading);
         let above = some_above(self.above, counted);
-        if period == hours::OFF_PEAK {
-            let offpeak = self.offpeak + counted as u64;
+        let amount = counted as u64;
+        let critical = self.critical + in_period(period, hours::CRITICAL, amount);
+        let onpeak = self.onpeak + in_period(period, hours::ON_PEAK, amount);
+        let offpeak = self.offpeak + in_period(period, hours::OFF_PEAK, amount);
+        let discount = self.discount + in_period(period, hours::DISCOUNT, amount);
+        Count {
+            critical,
+            onpeak,
+            offpeak,
+            discount,
+            largest: self.largest,
+            above,
+            last: counted,
+        }
+    }
+
+    // The count with one pair more, one reading after the other, whatever they are.
+    fn add_one_by_one(self, period: u8, next_period: u8, reading: u32, next: u32) -> Count
+        requires { ⌜ Room 2 self ⌝ }
+        ensures { λ r. ⌜ FilledPair self period «next_period» reading next r ⌝ }
+    {
+        let half = self.add(period, reading);
+        let earlier = half.last;
+        let whole = half.add(next_period, next);
+        let sum = counting_sum(period, next_period, earlier, whole.last);
+        Count {
+            critical: whole.critical,
+            onpeak: whole.onpeak,
+            offpeak: whole.offpeak,
+            discount: whole.discount,
+            largest: larger(whole.largest, sum),
+            above: whole.above,
+            last: whole.last,
+        }
+    }
+
+    // The count with one pair more, both quarters of one period and the sum within the limit of a reading: so neither is lost or above it.
+    fn add_at_once(self, period: u8, reading: u32, next: u32) -> Count
+        requires { ⌜ Room 2 self ⌝ }
+        requires { ⌜ reading + next ≤ readingLimit ⌝ }
+        ensures { λ r. ⌜ AddedPair self period period reading next r ⌝ }
+    {
+        let sum = pair_sum(reading, next);
+        let critical = self.critical + in_period(period, hours::CRITICAL, sum);
+        let onpeak = self.onpeak + in_period(period, hours::ON_PEAK, sum);
+        let offpeak = self.offpeak + in_period(period, hours::OFF_PEAK, sum);
+        let discount = self.discount + in_period(period, hours::DISCOUNT, sum);
+        let largest = larger(self.largest, counting_sum(period, period, reading, next));
+        Count {
+            critical,
+            onpeak,
+            offpeak,
+            discount,
+            largest,
+            above: self.above,
+            last: next,
+        }
+    }
+
+    // The same where the schedule has this entry for both quarters. Most pairs are off-peak or discount, in long runs: these tests come first.
+    fn add_same_entry(self, day: DayHours, entry: u8, reading: u32, next: u32) -> Count
+        requires { ⌜ Room 2 self ⌝ }
+        requires { ⌜ reading + next ≤ readingLimit ⌝ }
+        ensures { λ r. ⌜ AddedPair self (periodOnDay (day .critical) entry) (periodOnDay (day .critical) entry) reading next r ⌝ }
+    {
+        let sum = pair_sum(reading, next);
+        if entry == hours::OFF_PEAK {
+            let offpeak = self.offpeak + sum;
             return Count {
                 critical: self.critical,
                 onpeak: self.onpeak,
                 offpeak,
                 discount: self.discount,
-                peak: self.peak,
-                above,
-                last: counted,
+                largest: self.largest,
+                above: self.above,
+                last: next,
             };
         }
-        if period == hours::DISCOUNT {
-            let discount = self.discount + counted as u64;
+        if entry == hours::DISCOUNT {
+            let discount = self.discount + sum;
             return Count {
                 critical: self.critical,
                 onpeak: self.onpeak,
                 offpeak: self.offpeak,
                 discount,
-                peak: self.peak,
-                above,
-                last: counted,
+                largest: self.largest,
+                above: self.above,
+                last: next,
             };
         }
-        let critical = self.critical + in_period(period, hours::CRITICAL, counted);
-        let onpeak = self.onpeak + in_period(period, hours::ON_PEAK, counted);
-        Count {
-            critical,
-            onpeak,
-            offpeak: self.offpeak,
-            discount: self.discount,
-            peak: larger(self.peak, peak_reading(period, counted)),
-            above,
-            last: counted,
+        self.add_at_once(hours::period_on(day, entry), reading, next)
+    }
+
+    // The count with one pair more, from its entries of the schedule. For nearly all pairs one test serves for the mark and the limit of both readings,
+    // and one addition for both. (By `pair_sum` this test made a bill slower.)
+    fn add_pair(self, day: DayHours, entry: u8, next_entry: u8, reading: u32, next: u32) -> Count
+        requires { ⌜ Room 2 self ⌝ }
+        ensures { λ r. ⌜ FilledPair self (periodOnDay (day .critical) entry) (periodOnDay (day .critical) «next_entry») reading next r ⌝ }
+    {
+        if entry == next_entry {
+            if reading as u64 + next as u64 <= READING_LIMIT as u64 {
+                return self.add_same_entry(day, entry, reading, next);
+            }
         }
+        let period = hours::period_on(day, entry);
+        let next_period = hours::period_on(day, next_entry);
+        self.add_one_by_one(period, next_period, reading, next)
     }
 }
 
-// Where the readings that start at a place of a day, and whose quarters follow each other, end: with the day, or where the clocks change.
+// Where the readings that start at a place of a day, and whose quarters follow each other, end: with the day, or where the clocks change. No pair
+// is parted.
 fn stretch_end(clock: Clock, length: usize, place: usize) -> usize
-    requires { ⌜ (place < length) × (8 ≤ length) ⌝ }
-    ensures { λ r. ⌜ r ≤ length ⌝ }
+    requires { ⌜ (place < length) × (8 ≤ length) × (length % 2 ≡ 0) ⌝ }
+    ensures { λ r. ⌜ (r ≤ length) × (r % 2 ≡ 0) ⌝ }
     ensures { λ r. ⌜ Follows clock place r ⌝ }
 {
     if calendar::CHANGE_QUARTER <= place {
@@ -158,7 +243,7 @@ fn stretch_end(clock: Clock, length: usize, place: usize) -> usize
     }
 }
 
-// The count with some readings more of the day after the first days, whose readings start at the place given: those from one place of the
+// The count with some pairs more of the day after the first days, whose readings start at the place given: those from one place of the
 // day to another, whose quarters follow each other.
 fn count_stretch(
     count: Count,
@@ -179,18 +264,23 @@ fn count_stretch(
     requires { ⌜ clock ≡ clockOf month (before + 1) ⌝ }
     requires { ⌜ to ≤ dayLength month (before + 1) ⌝ }
     requires { ⌜ Follows clock from to ⌝ }
+    requires { ⌜ (from % 2 ≡ 0) × (to % 2 ≡ 0) ⌝ }
     ensures { λ r. ⌜ DayCounted (now (schedule .entry)) month «critical_days» (now (register .entry)) before to r ⌝ }
 {
     let day = before + 1;
     let day_hours = hours::day_hours(month, day, critical_days);
     let row = day_hours.row;
-    let quarter = calendar::quarter_by(clock, from as u32);
+    let first_quarter = calendar::quarter_by(clock, from as u32);
     let mut so_far = count;
     let mut place = from;
     while place < to {
-        let period = hours::period_on(day_hours, schedule[row + (quarter + (place - from))]);
-        so_far = so_far.add(period, register[start + place]);
-        place += 1;
+        let quarter = first_quarter + (place - from);
+        let entry = schedule[row + quarter];
+        let next_entry = schedule[row + (quarter + 1)];
+        let reading = register[start + place];
+        let next = register[start + (place + 1)];
+        so_far = so_far.add_pair(day_hours, entry, next_entry, reading, next);
+        place += 2;
     }
     so_far
 }
@@ -247,7 +337,7 @@ fn count_month(schedule: &[u8; 384], register: &[u32], month: u32, critical_days
         onpeak: 0,
         offpeak: 0,
         discount: 0,
-        peak: 0,
+        largest: 0,
         above: false,
         last: 0,
     };
@@ -293,7 +383,7 @@ pub fn tally_of(schedule: &[u8; 384], register: &[u32], month: u32, critical_day
     }
     let count = count_month(schedule, register, month, critical_days);
     let firstlost = first_lost(register);
-    let power = 4 * count.peak;
+    let power = 2 * count.largest;
     Tally {
         wronglength: false,
         abovelimit: count.above,

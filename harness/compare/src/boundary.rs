@@ -1,5 +1,5 @@
 //! Lists at, below and above each limit of 01, each edge of a window, each half cent,
-//! each order of refusals, and each place of a gap.
+//! each order of refusals, each place of a gap, and each place in a pair of quarters.
 
 use crate::lists::List;
 use harness::reference::account::{Assisted, Class, PriceList, Rider, Terms};
@@ -32,22 +32,24 @@ const PLACES: [(u32, usize); 4] = [
 const CRITICAL_DAYS: u32 = 1;
 
 pub fn lists() -> Vec<List> {
-    let sets: [(&str, Vec<Vec<Call>>); 15] = [
+    // The large ones come when few wrong variants are left to be tried on them.
+    let sets: [(&str, Vec<Vec<Call>>); 16] = [
         ("price lists", price_lists()),
-        ("terms", terms()),
         ("months", months()),
         ("a full book", full_book()),
         ("register lengths", lengths()),
-        ("gaps", gaps()),
-        ("gaps beside large readings", gaps_beside_large()),
-        ("gaps at the end of a month", gaps_at_the_end()),
-        ("clock changes", clock_changes()),
-        ("critical days", critical_days()),
         ("readings", readings()),
-        ("faults together", faults()),
-        ("edges of windows", windows()),
+        ("critical days", critical_days()),
         ("half cents", half_cents()),
         ("credit and need", sharing()),
+        ("faults together", faults()),
+        ("gaps at the end of a month", gaps_at_the_end()),
+        ("gaps beside large readings", gaps_beside_large()),
+        ("edges of windows", windows()),
+        ("pairs", pairs()),
+        ("gaps", gaps()),
+        ("terms", terms()),
+        ("clock changes", clock_changes()),
     ];
     let mut lists = Vec::new();
     for (name, set) in sets {
@@ -74,9 +76,10 @@ const BRIDGE: Terms = Terms {
     ..HOME
 };
 
+// Demand costs a cent for each Wh of a pair, so that none is lost in rounding.
 const PRICES: PriceList = PriceList {
     energy: [30_000, 20_000, 10_000, 5_000],
-    demand: 700,
+    demand: 500_000,
     standby: 300,
     bypass: 120,
     credit: 6_000,
@@ -647,6 +650,46 @@ fn windows() -> Vec<Vec<Call>> {
     lists
 }
 
+/// Readings in a row: one, two, and some of them lost.
+const IN_A_ROW: [&[u32]; 5] = [
+    &[1_001],
+    &[700, 1_001],
+    &[1_001, LOST],
+    &[300, LOST, 1_001],
+    &[700, LOST, LOST, LOST],
+];
+
+/// Readings in a row from each place beside the edges of the window on, which fall into one
+/// pair or into two: on each kind of day, the two of the clock change among them, critical
+/// and not. Another day has the largest pair where these don't count.
+fn pairs() -> Vec<Vec<Call>> {
+    let mut lists = Vec::new();
+    for (month, day, [start, end]) in [
+        // A Saturday in winter, the last day of its month; a Wednesday and a Saturday in summer.
+        (JUNE_2001, 30, [68, 84]),
+        (JULY_2001, 4, [52, 72]),
+        (JULY_2001, 7, [52, 72]),
+        (MARCH_2007, 11, [64, 80]),
+        (NOVEMBER_2007, 4, [72, 88]),
+    ] {
+        for place in (start - 3..start + 3).chain(end - 3..end + 3) {
+            for readings in IN_A_ROW {
+                let full = Month::new(month)
+                    .deliver((20, 70), 400)
+                    .deliver((20, 71), 500);
+                let full = (place..)
+                    .zip(readings)
+                    .fold(full, |full, (place, &wh)| full.deliver((day, place), wh));
+                for critical_days in [0, 1 << (day - 1)] {
+                    let bill = full.clone().critical(critical_days).bill();
+                    lists.push(vec![opening(HOME, PRICES, month), bill]);
+                }
+            }
+        }
+    }
+    lists
+}
+
 /// Quantities times prices just below, at and above a half cent.
 fn half_cents() -> Vec<Vec<Call>> {
     let mut lists = Vec::new();
@@ -672,7 +715,7 @@ fn half_cents() -> Vec<Vec<Call>> {
                     Month::new(FEBRUARY_2001 + 1)
                         .critical(CRITICAL_DAYS)
                         .receive(place, wh)
-                        .deliver(PLACES[0], wh / 4)
+                        .deliver(PLACES[0], wh / 2)
                         .bill(),
                     Call::Closing,
                 ]);

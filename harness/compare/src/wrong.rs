@@ -2,7 +2,7 @@
 //! A comparison that doesn't notice one of them is worth nothing.
 
 use crate::compare::{Difference, Room, Written};
-use crate::rules::{settle, Rules, Settled};
+use crate::rules::{settle, sum_of, Metered, Pair, Rules, Settled};
 use harness::reference::account::{
     Account, Assisted, ByPeriod, Class, PriceList, Rider, State, Terms,
 };
@@ -54,6 +54,7 @@ pub fn all() -> Vec<Wrong> {
         hours(),
         energy(),
         money(),
+        demands(),
         refusals(),
         accounts(),
         gaps(),
@@ -619,29 +620,6 @@ fn money() -> Vec<Named> {
             },
         ),
         (
-            "demand counts off-peak readings",
-            Rules {
-                demand: |prices, largest| {
-                    (RIGHT.demand)(prices, &[largest[0], largest[1].max(largest[2]), 0, 0])
-                },
-                ..RIGHT
-            },
-        ),
-        (
-            "demand leaves out critical readings",
-            Rules {
-                demand: |prices, largest| (RIGHT.demand)(prices, &[0, largest[1], 0, 0]),
-                ..RIGHT
-            },
-        ),
-        (
-            "demand isn't four times the reading",
-            Rules {
-                demand: |prices, largest| cents(product(largest[0].max(largest[1]), prices.demand)),
-                ..RIGHT
-            },
-        ),
-        (
             "standby from 100,000 W on",
             Rules {
                 standby: |terms, prices| match (terms.class, terms.nameplate) {
@@ -766,6 +744,113 @@ fn assisted_if(terms: &Terms, spared: bool) -> Terms {
         false => Assisted::No,
     };
     Terms { assisted, ..*terms }
+}
+
+fn demands() -> Vec<Named> {
+    [pairs(), powers()].concat()
+}
+
+/// That both quarters of a pair must be critical or on-peak, or that the off-peak one adds
+/// nothing, no bill shows: the windows begin and end with whole pairs. Nor does one show a pair
+/// that goes across midnight, nor the doubled hour's pairs added up. The proofs exclude it.
+fn pairs() -> Vec<Named> {
+    vec![
+        (
+            "quarters 1 and 2, 3 and 4 are the pairs",
+            Rules {
+                pairs: |readings| (1..readings.saturating_sub(1)).step_by(2),
+                ..RIGHT
+            },
+        ),
+        (
+            "any two quarters in a row are a pair",
+            Rules {
+                pairs: |readings| (0..readings.saturating_sub(1)).step_by(1),
+                ..RIGHT
+            },
+        ),
+        (
+            "demand counts off-peak pairs",
+            with_counting(|day, place| day.readings[place].period != Period::Discount),
+        ),
+        (
+            "demand counts discount pairs",
+            with_counting(|day, place| day.readings[place].period != Period::OffPeak),
+        ),
+        (
+            "demand leaves out critical pairs",
+            with_counting(|day, place| day.readings[place].period == Period::OnPeak),
+        ),
+        (
+            "demand counts from a half-hour before its window",
+            with_counting(|day, place| counts(day, place) || counts(day, place + 2)),
+        ),
+        (
+            "demand leaves out the last half-hour of its window",
+            with_counting(|day, place| counts(day, place) && counts(day, place + 2)),
+        ),
+        (
+            "a pair takes its periods from its place in the day",
+            with_counting(|day, place| {
+                let quarters = [place, place + 1].map(|place| place as u32);
+                steps::pair_counts(quarters.map(|quarter| day.day.period(quarter)))
+            }),
+        ),
+    ]
+}
+
+/// The rules with other pairs that count.
+fn with_counting(pair_counts: fn(&Metered, usize) -> bool) -> Rules {
+    Rules {
+        pair_counts,
+        ..RIGHT
+    }
+}
+
+/// Whether there is a pair at the place, and it counts.
+fn counts(day: &Metered, place: usize) -> bool {
+    place + 1 < day.readings.len() && (RIGHT.pair_counts)(day, place)
+}
+
+/// The rules with another demand of a pair.
+fn with_power(power: fn(Pair, Pair) -> u64) -> Rules {
+    Rules { power, ..RIGHT }
+}
+
+fn powers() -> Vec<Named> {
+    vec![
+        (
+            "demand is four times the larger reading of a pair",
+            with_power(|[first, second], _| 4 * u64::from(first.filled.max(second.filled))),
+        ),
+        (
+            "demand is the sum of a pair",
+            with_power(|used, _| sum_of(used)),
+        ),
+        (
+            "demand is four times the sum of a pair",
+            with_power(|used, _| 4 * sum_of(used)),
+        ),
+        (
+            "demand is four times the mean of a pair, rounded down",
+            with_power(|used, _| 4 * (sum_of(used) / 2)),
+        ),
+        (
+            "demand is what a pair received",
+            with_power(|_, made| 2 * sum_of(made)),
+        ),
+        (
+            "demand is what a pair took more than it received",
+            with_power(|used, made| 2 * sum_of(used).saturating_sub(sum_of(made))),
+        ),
+        (
+            "demand is rounded before it is doubled",
+            Rules {
+                demand: |prices, power| 2 * cents(product(power / 2, prices.demand)),
+                ..RIGHT
+            },
+        ),
+    ]
 }
 
 fn refusals() -> Vec<Named> {
@@ -1160,18 +1245,23 @@ fn fillings() -> Vec<Named> {
             },
         ),
         (
-            "a gap isn't filled in the demand reading",
-            Rules {
-                metered: |reading, _| read_as(reading, LOST, 0),
-                ..RIGHT
-            },
+            "a gap isn't filled for demand",
+            with_power(|used, _| 2 * sum_filled(used, |_| 0)),
         ),
         (
-            "the mark itself is the demand reading",
-            Rules {
-                metered: |reading, _| reading,
-                ..RIGHT
-            },
+            "the mark itself counts for demand",
+            with_power(|used, _| 2 * sum_filled(used, |_| LOST)),
+        ),
+        (
+            "a lost reading counts as the other one of its pair for demand",
+            with_power(|used, _| 2 * sum_filled(used, |other| other)),
+        ),
+        (
+            "a pair with a lost reading doesn't count",
+            with_power(|used, _| {
+                let came = used.iter().all(|reading| reading.stands != LOST);
+                2 * u64::from(came) * sum_of(used)
+            }),
         ),
         (
             "a gap isn't filled in the totals",
@@ -1181,6 +1271,13 @@ fn fillings() -> Vec<Named> {
             },
         ),
     ]
+}
+
+/// The sum of a pair with each lost reading filled by what the other one counts as.
+fn sum_filled([first, second]: Pair, fill: fn(u32) -> u32) -> u64 {
+    let first_wh = read_as(first.stands, LOST, fill(second.filled));
+    let second_wh = read_as(second.stands, LOST, fill(first.filled));
+    u64::from(first_wh) + u64::from(second_wh)
 }
 
 /// A register with each lost reading taken from the same place of other readings.

@@ -96,16 +96,27 @@ pub fn register_length(month: u32) -> usize {
     first_reading(month, days_in_month(month) + 1)
 }
 
-/// Each reading of a month's register with its period. Readings past the month
-/// are left out.
+/// The readings of each day of a month's register, each with its period. Readings past
+/// the month are left out.
+pub fn days_with_period(
+    month: u32,
+    critical_days: u32,
+    register: &[u32],
+) -> impl Iterator<Item = Vec<(Period, u32)>> + '_ {
+    let mut readings = register.iter().copied();
+    (1..=days_in_month(month)).map(move |number| {
+        let day = Day::of(month, number, critical_days);
+        let quarters = clock_quarters(clocks(month, number));
+        let periods = quarters.map(|quarter| day.period(quarter));
+        periods.zip(&mut readings).collect()
+    })
+}
+
+/// Each reading of a month's register with its period.
 pub fn readings_with_period(
     month: u32,
     critical_days: u32,
     register: &[u32],
 ) -> impl Iterator<Item = (Period, u32)> + '_ {
-    let periods = (1..=days_in_month(month)).flat_map(move |number| {
-        let day = Day::of(month, number, critical_days);
-        clock_quarters(clocks(month, number)).map(move |quarter| day.period(quarter))
-    });
-    periods.zip(register.iter().copied())
+    days_with_period(month, critical_days, register).flatten()
 }

@@ -59,19 +59,19 @@ fn a_bridge_bill() {
         paid: [0, 0, 0, 10_000],
         // 99,500 × 10,000 = 995,000,000
         energy: 995,
-        // 4 × 600 × 500,000 = 1,200,000,000
-        demand: 1_200,
+        // 2 × 600 × 500,000 = 600,000,000
+        demand: 600,
         standby: 0,
         // 8,001 × 2,000 = 16,002,000
         bypass: 16,
         // 2,200 − 1,400 − 447, from 99,500 × 4,493 = 447,053,500
         shortfall: 353,
-        // 1,400 + 1,200 + 16 + 995 + 353
-        gross: 3_964,
+        // 1,400 + 600 + 16 + 995 + 353
+        gross: 3_364,
         // 10,000 × 3,350 = 33,500,000
         granted: 34,
         used: 44,
-        due: 3_920,
+        due: 3_320,
         standing: 0,
     };
     assert_eq!(bill, expected);
@@ -90,11 +90,11 @@ fn money_over_stays_standing() {
         ..bridge_account()
     };
     let (bill, after) = bill(account, &july(), DAY_3);
-    assert_eq!(bill.used, 3_964);
+    assert_eq!(bill.used, 3_364);
     assert_eq!(bill.due, 0);
-    // 5,000 + 34 − 3,964
-    assert_eq!(bill.standing, 1_070);
-    assert_eq!(after.standing, 1_070);
+    // 5,000 + 34 − 3,364
+    assert_eq!(bill.standing, 1_670);
+    assert_eq!(after.standing, 1_670);
 }
 
 #[test]
@@ -115,15 +115,15 @@ fn the_same_month_banked() {
     assert_eq!(bill.left, [0, 0, 0, 10_001]);
     assert_eq!(bill.paid, [0; 4]);
     assert_eq!((bill.bypass, bill.shortfall, bill.granted), (0, 0, 0));
-    // 1,400 + 1,200 + 900
-    assert_eq!(bill.gross, 3_500);
+    // 1,400 + 600 + 900
+    assert_eq!(bill.gross, 2_900);
     // Standing money is taken as it is under the banked rider too.
-    assert_eq!((bill.used, bill.due), (10, 3_490));
+    assert_eq!((bill.used, bill.due), (10, 2_890));
     assert_eq!(after.carried, [0, 0, 0, 10_001]);
 }
 
 #[test]
-fn demand_looks_at_delivered_readings_in_periods_0_and_1() {
+fn demand_looks_at_delivered_pairs_that_count() {
     let demand_of = |registers: Registers, critical_days| {
         bill(bridge_account(), &registers, critical_days).0.demand
     };
@@ -134,16 +134,16 @@ fn demand_looks_at_delivered_readings_in_periods_0_and_1() {
         .deliver(2, OFF_PEAK, 900)
         .receive(2, SUMMER_ON_PEAK, 900);
     assert_eq!(demand_of(others.clone(), 0), 0);
-    // The largest reading, though all of it is netted: 4 × 300 × 500,000.
+    // The largest pair, though all of it is netted: 2 × 300 × 500,000.
     let netted = others.clone().deliver(2, SUMMER_ON_PEAK, 300);
-    assert_eq!(demand_of(netted.clone(), 0), 600);
-    // A critical reading counts as well: 4 × 400 × 500,000.
+    assert_eq!(demand_of(netted.clone(), 0), 300);
+    // A critical pair counts as well: 2 × 400 × 500,000.
     let critical = netted.deliver(3, SUMMER_ON_PEAK, 400);
-    assert_eq!(demand_of(critical, DAY_3), 800);
-    // Rounded from the product of all three: 4 × 1 × 125,000 is half a cent.
+    assert_eq!(demand_of(critical, DAY_3), 400);
+    // Rounded from the product of all three: 2 × 1 × 250,000 is half a cent.
     let account = Account {
         price_list: PriceList {
-            demand: 125_000,
+            demand: 250_000,
             ..bridge_account().price_list
         },
         ..bridge_account()
@@ -307,6 +307,7 @@ fn the_largest_bill_fits() {
     registers.delivered.fill(1_000_000);
     let (draw, _) = bill(no_credit, &registers, 0);
     assert_eq!(draw.energy, 2_976_000_000);
+    // 2 × 2,000,000 × 1,000,000
     assert_eq!(draw.demand, 4_000_000);
     assert_eq!(draw.due, 2_976_000_000 + 4_000_000 + 1_000_000 + 20_000);
 }

@@ -1,25 +1,19 @@
 //! 02, No. 4: bills of registers with lost readings, worked by hand.
 
 use crate::helpers::{
-    bill, open_account, prices, Registers, FEBRUARY_2001, LOST, MARCH_2007, NOVEMBER_2007,
+    account_with_demand, bill, Registers, FEBRUARY_2001, LOST, MARCH_2007, NOVEMBER_2007,
 };
 use harness::random::Random;
-use harness::reference::account::{Account, Bill, PriceList};
+use harness::reference::account::Bill;
 use harness::reference::gaps::filled;
 
-/// An account whose demand costs a cent for each Wh of a quarter.
-fn account(next_month: u32) -> Account {
-    Account {
-        price_list: PriceList {
-            demand: 250_000,
-            ..prices()
-        },
-        ..open_account(next_month)
-    }
-}
-
 fn february(registers: Registers, critical_days: u32) -> Bill {
-    bill(account(FEBRUARY_2001), &registers, critical_days).0
+    bill(
+        account_with_demand(FEBRUARY_2001),
+        &registers,
+        critical_days,
+    )
+    .0
 }
 
 #[test]
@@ -108,7 +102,8 @@ fn a_month_of_which_only_the_first_reading_came() {
     // 28 days of 16, 60 and 20 quarters, as in 01's example.
     assert_eq!(bill.delivered, [0, 44_800, 168_000, 56_000]);
     assert_eq!(bill.exported, [0, 448, 1_680, 560]);
-    assert_eq!(bill.demand, 100);
+    // Each pair has 2 × 100 Wh.
+    assert_eq!(bill.demand, 200);
 }
 
 #[test]
@@ -116,7 +111,7 @@ fn the_last_readings_of_a_month() {
     let registers = Registers::zeros(28)
         .deliver(28, 93, 6)
         .lose_delivered(28, 94, 2);
-    let (before, after) = bill(account(FEBRUARY_2001), &registers, 0);
+    let (before, after) = bill(account_with_demand(FEBRUARY_2001), &registers, 0);
     assert_eq!(before.delivered, [0, 0, 18, 0]);
     // March has its own register, and its own first reading.
     let registers = Registers::zeros(31).lose_delivered(1, 1, 10);
@@ -135,11 +130,11 @@ fn a_value_counts_in_the_period_of_the_lost_quarter() {
     let lost = came.lose_delivered(1, 68, 4);
     let bill = february(lost.clone(), 0);
     assert_eq!(bill.delivered, [0, 3_600, 900, 0]);
-    assert_eq!(bill.demand, 900);
+    assert_eq!(bill.demand, 1_800);
     // On a critical day these are critical.
     let bill = february(lost, 1);
     assert_eq!(bill.delivered, [3_600, 0, 900, 0]);
-    assert_eq!(bill.demand, 900);
+    assert_eq!(bill.demand, 1_800);
     // The other way round: on-peak at 20:45, then off-peak.
     let registers = Registers::zeros(28)
         .deliver(1, 83, 900)
@@ -150,24 +145,21 @@ fn a_value_counts_in_the_period_of_the_lost_quarter() {
 }
 
 #[test]
-fn the_mark_itself_is_never_the_demand_reading() {
+fn the_mark_itself_never_counts_for_demand() {
     let registers = Registers::zeros(28)
         .deliver(1, 70, 5)
         .lose_delivered(1, 71, 3)
         .deliver(1, 74, 6)
         .lose_received(1, 70, 9);
+    // The pairs have 5 + 5, 5 + 5 and 6 + 0 Wh.
     let bill = february(registers, 0);
-    assert_eq!((bill.delivered, bill.demand), ([0, 26, 0, 0], 6));
+    assert_eq!((bill.delivered, bill.demand), ([0, 26, 0, 0], 10));
 }
 
 #[test]
 fn gaps_on_days_on_which_the_clocks_change() {
-    let of_length = |length| Registers {
-        delivered: vec![0; length],
-        received: vec![0; length],
-    };
     // 11 March 2007: after 01:45 comes 03:00, and on-peak begins at place 64.
-    let registers = of_length(2_972)
+    let registers = Registers::of_length(2_972)
         .deliver(11, 7, 50)
         .lose_delivered(11, 8, 2)
         .deliver(11, 63, 70)
@@ -175,22 +167,22 @@ fn gaps_on_days_on_which_the_clocks_change() {
         // Day 12 begins at place 92 of day 11.
         .receive(11, 91, 5)
         .lose_received(11, 92, 6);
-    let (march, _) = bill(account(MARCH_2007), &registers, 0);
+    let (march, _) = bill(account_with_demand(MARCH_2007), &registers, 0);
     assert_eq!(march.delivered, [0, 210, 70, 150]);
     assert_eq!(march.exported, [0, 0, 25, 10]);
-    assert_eq!(march.demand, 70);
+    assert_eq!(march.demand, 140);
     // 4 November 2007: after 01:45 comes 01:00, and on-peak begins at place 72.
-    let registers = of_length(2_884)
+    let registers = Registers::of_length(2_884)
         .deliver(4, 7, 50)
         .lose_delivered(4, 8, 2)
         .deliver(4, 71, 70)
         .lose_delivered(4, 72, 3)
         .receive(4, 99, 5)
         .lose_received(4, 100, 6);
-    let (november, _) = bill(account(NOVEMBER_2007), &registers, 0);
+    let (november, _) = bill(account_with_demand(NOVEMBER_2007), &registers, 0);
     assert_eq!(november.delivered, [0, 210, 70, 150]);
     assert_eq!(november.exported, [0, 0, 25, 10]);
-    assert_eq!(november.demand, 70);
+    assert_eq!(november.demand, 140);
 }
 
 #[test]
@@ -200,7 +192,7 @@ fn the_largest_reading_may_be_repeated() {
         .lose_delivered(1, 1, 2_687);
     let bill = february(registers, 0);
     assert_eq!(bill.delivered.iter().sum::<u64>(), 2_688_000_000);
-    assert_eq!(bill.demand, 1_000_000);
+    assert_eq!(bill.demand, 2_000_000);
 }
 
 #[test]

@@ -75,6 +75,17 @@ pub fn open_account(next_month: u32) -> Account {
     }
 }
 
+/// An open account whose demand costs a cent for each Wh of a pair of quarters.
+pub fn account_with_demand(next_month: u32) -> Account {
+    Account {
+        price_list: PriceList {
+            demand: 500_000,
+            ..prices()
+        },
+        ..open_account(next_month)
+    }
+}
+
 /// The two registers of a month.
 #[derive(Clone)]
 pub struct Registers {
@@ -85,9 +96,14 @@ pub struct Registers {
 impl Registers {
     /// A month of so many days with every reading 0.
     pub fn zeros(days: usize) -> Registers {
+        Registers::of_length(96 * days)
+    }
+
+    /// A month of so many readings, each of them 0.
+    pub fn of_length(length: usize) -> Registers {
         Registers {
-            delivered: vec![0; 96 * days],
-            received: vec![0; 96 * days],
+            delivered: vec![0; length],
+            received: vec![0; length],
         }
     }
 

@@ -3,8 +3,8 @@
 use crate::helpers::{FEBRUARY_2001, JULY_2001, MARCH_2007, NOVEMBER_2007};
 use harness::reference::calendar::{Clocks, DayKind, Season};
 use harness::reference::hours::{
-    clock_quarters, count_critical_days, is_critical_day, readings_with_period, register_length,
-    scheduled, Day, Period,
+    clock_quarters, count_critical_days, days_with_period, is_critical_day, readings_with_period,
+    register_length, scheduled, Day, Period,
 };
 
 fn count(season: Season, kind: DayKind, period: Period) -> usize {
@@ -88,6 +88,23 @@ fn readings_meet_their_periods() {
     );
     assert_eq!(register_length(FEBRUARY_2001), 2_688);
     assert_eq!(register_length(JULY_2001), 2_976);
+}
+
+#[test]
+fn readings_of_each_day() {
+    // 92 readings on 11 March 2007 and 100 on 4 November.
+    for (month, length, changed, readings) in
+        [(MARCH_2007, 2_972, 10, 92), (NOVEMBER_2007, 2_884, 3, 100)]
+    {
+        let register: Vec<u32> = (0..length).collect();
+        let days: Vec<_> = days_with_period(month, 0, &register).collect();
+        for (index, day) in days.iter().enumerate() {
+            assert_eq!(day.len(), if index == changed { readings } else { 96 });
+        }
+        // None is left out or stands in two days.
+        let all: Vec<u32> = days.concat().iter().map(|&(_, wh)| wh).collect();
+        assert_eq!(all, register);
+    }
 }
 
 #[test]

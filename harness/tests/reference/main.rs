@@ -5,6 +5,7 @@ mod helpers;
 mod bills;
 mod calendar;
 mod day_view;
+mod demand;
 mod examples;
 mod gaps;
 mod hours;

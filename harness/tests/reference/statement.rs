@@ -112,7 +112,7 @@ fn bridge_and_june() {
 #[test]
 fn each_line_reaches_its_amount() {
     // The bridge bill worked in bills.rs, with nothing standing before: due is
-    // 3,964 less the 34 granted.
+    // 3,364 less the 34 granted.
     let lines = [
         "opens=2001-07",
         "rider=bridge",
@@ -142,13 +142,13 @@ fn each_line_reaches_its_amount() {
     ];
     let expected = "open=0\nbill=2001-07 answer=0 own=0,100,0,0 out=1000,0,0,0 in=0,500,500,0 \
         paid=0,0,0,10000 forfeited=0,0,0,0 billed=0,0,99500,0 left=0,0,0,0 \
-        energy=995 due=3930\n";
+        energy=995 due=3330\n";
     let input = lines.join("\n");
     assert_printed(&input, expected);
     // An assisted customer of 8,000 W is spared the shortfall of 353; bypass is
     // 16 cents as before.
     let spared = input.replace("nameplate=8001", "nameplate=8000");
-    assert_printed(&spared, &expected.replace("due=3930", "due=3577"));
+    assert_printed(&spared, &expected.replace("due=3330", "due=2977"));
     let not_assisted = spared.replace("assisted=yes", "assisted=no");
     assert_printed(&not_assisted, expected);
     // A business of 100,001 W pays 17,235 cents of standby.

@@ -1,5 +1,6 @@
 //! What is fed to the program: the worked examples, one input with each line and byte
-//! changed in turn, runs of lost readings, and random inputs, most of them damaged.
+//! changed in turn, runs of lost readings and of pairs, and random inputs, most of them
+//! damaged.
 
 use crate::show::{class_text, rider_text};
 use harness::generate;
@@ -176,21 +177,35 @@ pub fn changes() -> Vec<Input> {
     inputs
 }
 
-/// June, which the base input has last, with runs of lost readings in one column or in both.
+/// The base input with other runs in June, which it has last.
+fn with_june(name: String, runs: &str) -> Input {
+    let base = include_str!("base.in").lines();
+    let lines = base.clone().take(base.count() - 1).chain(runs.lines());
+    let lines: Lines = lines.map(Into::into).collect();
+    Input {
+        name,
+        bytes: joined(&lines),
+    }
+}
+
+/// Runs of lost readings in one column or in both.
 pub fn gaps() -> Vec<Input> {
-    let base: Lines = include_str!("base.in").lines().map(Into::into).collect();
     let mut inputs = Vec::new();
     for (delivered, received) in [(LOST, 3), (3, LOST), (LOST, LOST)] {
         for runs in runs_with_gaps(|count| format!("run={count},{delivered},{received}")) {
-            let runs = runs.lines().map(|line| line.as_bytes().to_vec());
-            let lines: Lines = base[..base.len() - 1].iter().cloned().chain(runs).collect();
-            inputs.push(Input {
-                name: format!("gaps {}", inputs.len()),
-                bytes: joined(&lines),
-            });
+            inputs.push(with_june(format!("gaps {}", inputs.len()), &runs));
         }
     }
     inputs
+}
+
+/// Two runs of a reading each, of one pair or of two, beside the edges of June's window.
+pub fn pairs() -> impl Iterator<Item = Input> {
+    (65..71).chain(81..87).map(|place| {
+        let rest = 2_880 - 2 - place;
+        let runs = format!("run={place},0,0\nrun=1,700,0\nrun=1,900,0\nrun={rest},0,0");
+        with_june(format!("pairs from {place} on"), &runs)
+    })
 }
 
 /// June has 2,880 readings, in the first run 68 up to on-peak; July's follow where a gap

@@ -52,8 +52,9 @@ impl Session {
             session.compare(input, Feeding::File);
             session.compare(input, Feeding::Pieces(seed));
         }
-        let changes = inputs::changes().into_iter().chain(inputs::gaps());
-        for input in changes.chain(inputs::random(0, FIXED_RANDOM)) {
+        let changes = inputs::changes().into_iter();
+        let fixed = changes.chain(inputs::gaps()).chain(inputs::pairs());
+        for input in fixed.chain(inputs::random(0, FIXED_RANDOM)) {
             session.compare_all(&input);
         }
         // The largest come when few wrong variants are left to be tried on them.
