@@ -45,7 +45,7 @@ pair-both a b d w s t e = record {
   last = rw (← (s .last)) (t .last);
 }
 
--- A pair whose sum is within the limit of a reading: neither is lost, and neither is above the limit.
+-- A pair whose sum is within the limit of a reading: neither is lost, both are added at once in their period, and neither is above the limit.
 pub pair-known : (a d : Count) (v w : ℕ) {p q : ℕ} → v + w ≤ readingLimit → AddedPair a p q v w d
     → FilledPair a p q v w d
 pair-known a d v w h s = rw (counts-itself (a .last) v (omega arith), counts-itself v w (omega arith)) s

@@ -1,5 +1,5 @@
 -- What callers know of the sums, the demand and the limit of readings: they cite these laws and `Totals`, and open no definition.
-use mathlib.Core.Path.{_≡_, refl, ap, _∙_, sym}
+use mathlib.Core.Path.{_≡_, refl, _∙_, sym}
 use mathlib.Core.Bool.{Bool, true, false, cond, not, _&&_, _||_}
 use mathlib.Core.List.{List}
 use mathlib.Core.Logic.{⊎-elim}
@@ -16,7 +16,7 @@ use Rattle.calendar.proofs.Laws.{through-next, monthLength-is, monthLength-le}
 use Rattle.hours.specs.Hours.{isPeak, periodOf, byPeriod}
 use Rattle.registers.specs.declared.Tally.{Tally}
 use Rattle.registers.specs.Counting.{countsAfter}
-use Rattle.registers.specs.Registers.{reading, isLost, lastKnown, countsAs, daySum, daysSum, sumOf, pairCounts, pairSum, dayLargest, daysLargest, demandPower}
+use Rattle.registers.specs.Registers.{reading, lostMark, isLost, lastKnown, countsAs, daySum, daysSum, sumOf, pairCounts, pairSum, dayLargest, daysLargest, demandPower}
 use Rattle.registers.specs.Registers.{readingLimit, monthLimit, someAbove, readingRefused, firstLost, lengthRefused, tallyOf}
 
 -- What a reading counts as, from the last one before it that isn't lost.
@@ -32,13 +32,13 @@ pub counts-as : (r : List ℕ) (i : ℕ) {last : ℕ} → last ≡ lastKnown r i
 unfolding countsAfter countsAs isLost reading
 counts-as r i e = rw e
 
+pub counts-next : (r : List ℕ) (i j : ℕ) {last : ℕ} → last ≡ countsAs r (i + j) → countsAfter last (getD r (i + (j + 1)) 0) ≡ countsAs r (i + (j + 1))
+counts-next r i j e = counts-as r _ (rw (← (add-assoc i j 1), known-more) e)
+
 -- A reading within the limit isn't lost.
 pub counts-itself : (last v : ℕ) → v ≤ readingLimit → countsAfter last v ≡ v
 unfolding countsAfter
-counts-itself last v h = rw (ne-eqb v 4294967295 (omega arith))
-
-pub counts-next : (r : List ℕ) (i j : ℕ) {last : ℕ} → last ≡ countsAs r (i + j) → countsAfter last (getD r (i + (j + 1)) 0) ≡ countsAs r (i + (j + 1))
-counts-next r i j e = counts-as r _ (rw (← (add-assoc i j 1), known-more) e)
+counts-itself last v h = rw (ne-eqb v lostMark (omega arith))
 
 -- A bound of all that stands in a register bounds what its readings count as.
 pub cond-le : (b : Bool) (v w bound : ℕ) → v ≤ bound → w ≤ bound → cond b v w ≤ bound
