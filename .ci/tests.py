@@ -14,6 +14,7 @@ from unittest import mock
 
 import contracts
 import layout
+import memory
 import refused
 import source
 import theorems
@@ -435,10 +436,87 @@ class Layout(Repository):
         self.passes("layout")
 
 
+class Memory(unittest.TestCase):
+    """Object files in C, which have the schedule in one form or another."""
+
+    PACKED = f"const unsigned char packed[] = {{ {', '.join(map(str, memory.packed(memory.windows())))} }};"
+    TIMES = "the 96 bytes of the schedule stand {} times in read-only data"
+    # A library that answers a billing by an entry of the schedule, in the place of the @.
+    LIBRARY = """
+        #include "kozempil.h"
+        uint64_t kozempil_register_length(uint32_t month) { return month ? 2976 : 0; }
+        uint32_t kozempil_call(const uint64_t *account, size_t account_len, const uint64_t *call, size_t call_len, const uint32_t *delivered,
+            size_t delivered_len, const uint32_t *received, size_t received_len, uint64_t *answer, size_t answer_len, uint64_t *after, size_t after_len) {
+            size_t at = 0, month = call[KOZEMPIL_CALL_MONTH];
+            for (size_t i = 0; i < answer_len; i++) answer[i] = 0;
+            while (at + 1 < delivered_len && !delivered[at]) at++;
+            size_t entry = (month == 12 ? 0 : 192) + 96 * (at / 96 == (month == 12 ? 5 : 0)) + at % 96;
+            answer[KOZEMPIL_ANSWER_DELIVERED + (@)] = answer[KOZEMPIL_ANSWER_EXPORTED + (@)] = 1;
+            return 1;
+        }"""
+
+    def setUp(self):
+        self.addCleanup(os.chdir, os.getcwd())
+        os.chdir(os.path.dirname(HERE))
+        self.scratch = tempfile.mkdtemp()
+        self.addCleanup(shutil.rmtree, self.scratch)
+
+    def made(self, *lines):
+        with open(f"{self.scratch}/library.c", "w", encoding="utf-8") as file:
+            file.write("\n".join(lines))
+        subprocess.run(["cc", "-O1", "-Iinclude", "-c", f"{self.scratch}/library.c", "-o", f"{self.scratch}/library.o"], check=True)
+        return f"{self.scratch}/library.o"
+
+    def faults(self, *lines):
+        return memory.faults_of_object(self.made(*lines))[1]
+
+    def test_the_schedule(self):
+        entries = memory.windows()
+        self.assertEqual([entries.count(period) for period in range(4)], [0, 52, 252, 80])
+        self.assertEqual(memory.packed([1, 2, 3, 0]), b"\x39")
+
+    def test_tables(self):
+        entries = ", ".join(map(str, memory.windows()))
+        self.assertEqual(self.faults(self.PACKED, "const unsigned more[] = { 0x12345678, 1, 2, 3, 0x03020100 };"), [])
+        for none in ("", self.PACKED.replace("170 }", "169 }"), self.PACKED.replace("170 }", "}"), self.PACKED.removeprefix("const ")):
+            self.assertEqual(self.faults(none), [self.TIMES.format(0)])
+        self.assertEqual(self.faults(self.PACKED, self.PACKED.replace("packed", "again")), [self.TIMES.format(2)])
+        for kind in ("char", "short", "int", "long"):
+            for plain in (entries, entries[64 * 3 : 80 * 3]):
+                found = self.faults(self.PACKED, f"const unsigned {kind} plain[] = {{ {plain} }};")
+                self.assertEqual(found, [".rodata: entries of a schedule in a row"])
+
+    def test_constants(self):
+        for constant in ("01020303", "2020202", "aaffffff", "5555aaaa", "202020203030303", "aaaaffffffffffaa"):
+            found = self.faults(self.PACKED, f"void f(unsigned long *at) {{ at[1] = 0x{constant}; }}")
+            self.assertEqual(found, [f"an instruction has 0x{constant.lstrip('0')}, entries of a schedule"])
+        for constant in ("1", "102", "1020300", "1020304", "1010101", "ffffffff", "ffffffffffffffff", "5555555555555555", "aaaaaaab"):
+            self.assertEqual(self.faults(self.PACKED, f"void f(unsigned long *at) {{ at[1] = 0x{constant}; }}"), [])
+
+    def test_one_by_one(self):
+        stores = [f"at[{place}] = {entry};" for place, entry in enumerate(memory.windows())]
+        found = ["instructions store entries of a schedule one by one"]
+        for some, faults in ((stores, found), (stores[:8], found), (stores[:7], [])):
+            self.assertEqual(self.faults(self.PACKED, f"void f(volatile unsigned char *at) {{ {' '.join(some)} }}"), faults)
+
+    def test_what_a_library_does(self):
+        windows = "entry % 96 >= (entry < 192 ? 68 : 52) && entry % 96 < (entry < 192 ? 84 : 72) && entry < 288 ? 1 : entry % 96 / 4 > 0 && entry % 96 / 4 < 6 ? 3 : 2"
+        for does, faults in {
+            "packed[entry / 4] >> 2 * (entry % 4) & 3": [],
+            "packed[entry / 4] >> 6 - 2 * (entry % 4) & 3": ["the library does not bill by the 96 bytes"],
+            "packed[(entry < 192 ? entry % 96 : entry) / 4] >> 2 * (entry % 4) & 3": ["the library does not bill by the 96 bytes"],
+            "packed[entry / 4 - (entry < 348 ? 0 : 81)] >> 2 * (entry % 4) & 3": ["the library does not bill by the 96 bytes"],
+            windows: ["the library does not bill by the 96 bytes"],
+            "packed[entry / 4] >> 2 * (entry % 4) & 1": ["the library does not bill by the windows", "the library does not bill by the 96 bytes"],
+        }.items():
+            with self.subTest(does=does):
+                self.assertEqual(memory.faults_of_library(self.made(self.PACKED, self.LIBRARY.replace("@", does)), self.scratch), faults)
+
+
 class Gate(unittest.TestCase):
     """The script `run` itself, with other programs in the place of those that it calls. Each of its parts can be made to fail."""
 
-    SCRIPTS = ("layout", "contracts", "theorems", "tests", "refused")
+    SCRIPTS = ("layout", "contracts", "theorems", "tests", "memory", "refused")
     PARTS = (*SCRIPTS, "fmt", "ci", "harness", "staticlib", "header", "built", "program", "statement", "use", "compared")
     PROGRAMS = {  # each ends by naming its part
         "bin/python3": 'case $1 in harness/use/*) set use ;; *) set "$(basename "$1" .py)" ;; esac',

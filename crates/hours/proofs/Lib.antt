@@ -1,2 +1,3 @@
 mod Days
+mod Storing
 pub mod Laws

@@ -1,2 +1,3 @@
 pub mod CriticalDays
 pub mod Hours
+pub mod Packing

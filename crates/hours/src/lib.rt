@@ -1,14 +1,17 @@
 // The hours of document 01: the schedule, the critical days, and the period of a quarter-hour.
 ghost use mathlib.Core.Path.{_≡_};
+ghost use Prim.Native.Nat.{_<_};
+ghost use lib.ListN.{getD};
 ghost use Rattle.calendar.specs.Calendar.{seasonOf, dayKindOf};
 ghost use Rattle.hours.specs.CriticalDays.{isCritical, criticalCount, pastLastDay, criticalRefused};
 ghost use Rattle.hours.specs.Hours.{fixedSchedule, rowStart, periodOnDay};
+ghost use Rattle.hours.specs.Packing.{byteAt, entryOf, unpacked};
 
 mod schedule;
 
 use calendar::DayKind;
 use calendar::Season;
-use schedule::SCHEDULE;
+use schedule::PACKED;
 
 // The periods, dearest first.
 pub const CRITICAL: u8 = 0;
@@ -39,11 +42,69 @@ pub struct DayHours {
     pub critical: bool,
 }
 
-// The fixed schedule.
+// Word w of a packed schedule. By a match, which for a constant schedule becomes a table in read-only memory; for `words[w]` instructions would store
+// all words on the stack first.
+fn word_at(words: &[u64; 12], w: usize) -> u64
+    requires { ⌜ w < 12 ⌝ }
+    ensures { λ r. ⌜ r ≡ getD (now (words .entry)) w 0 ⌝ }
+{
+    match w {
+        0 => words[0],
+        1 => words[1],
+        2 => words[2],
+        3 => words[3],
+        4 => words[4],
+        5 => words[5],
+        6 => words[6],
+        7 => words[7],
+        8 => words[8],
+        9 => words[9],
+        10 => words[10],
+        11 => words[11],
+        _ => 0,
+    }
+}
+
+// Byte b of a packed schedule.
+fn byte_at(words: &[u64; 12], b: usize) -> u8
+    requires { ⌜ b < 96 ⌝ }
+    ensures { λ r. ⌜ r ≡ byteAt (now (words .entry)) b ⌝ }
+{
+    let place = (b % 8) as u32;
+    ((word_at(words, b / 8) >> (8 * place)) % 256) as u8
+}
+
+// Entry k of a byte.
+fn entry_of(byte: u8, k: u32) -> u8
+    requires { ⌜ k < 4 ⌝ }
+    ensures { λ r. ⌜ r ≡ entryOf byte k ⌝ }
+{
+    (byte >> (2 * k)) & 3
+}
+
+// The entries of a packed schedule, one to a byte.
+fn unpack(words: &[u64; 12]) -> [u8; 384]
+    ensures { λ r. ⌜ r ≡ unpacked (now (words .entry)) 96 ⌝ }
+{
+    let mut entries = [0; 384];
+    let mut b = 0;
+    while b < 96 {
+        let byte = byte_at(words, b);
+        let first = 4 * b;
+        entries[first] = entry_of(byte, 0);
+        entries[first + 1] = entry_of(byte, 1);
+        entries[first + 2] = entry_of(byte, 2);
+        entries[first + 3] = entry_of(byte, 3);
+        b += 1;
+    }
+    entries
+}
+
+// The fixed schedule, unpacked, since the count of a month reads an entry for each quarter-hour.
 pub fn fixed_schedule() -> [u8; 384]
     ensures { λ r. ⌜ r ≡ fixedSchedule ⌝ }
 {
-    SCHEDULE
+    unpack(&PACKED)
 }
 
 // Where the row of a season and a day kind starts in the schedule.
