@@ -1,4 +1,4 @@
-"""Holds the built library to 02 No. 2: its read-only data has the schedule as 96 bytes, and nothing in it has the entries one to a byte.
+"""Holds the built library to 02 No. 2: its read-only data has the schedule as 96 bytes, bills are made from these, and no plain form of the entries stands beside.
 
 Two looks. The first is at the object file: the 96 bytes stand in its read-only data once, no eight entries stand there in a row, each in a number of its own, and no
 instruction has entries as a constant, one to a byte or packed. The second is at what `kozempil_call` does in January and July 2001: it bills by the windows of
