@@ -4,7 +4,8 @@
  *     export PKG_CONFIG_PATH=FOLDER/lib/pkgconfig
  *     cc examples/bill.c $(pkg-config --cflags --libs kozempil) -o bill && ./bill
  *
- * The home takes 250 Wh in each of the 2,976 quarters of January 2000, 744 kWh, at 0.20 dollars per kWh in every period: 14,880 cents.
+ * The home has 3,000 W on its barn and 2,000 W on its house. It takes 250 Wh in each of the 2,976 quarters of January 2000, 744 kWh, at 0.20 dollars
+ * per kWh in every period: 14,880 cents.
  * With the basic amount of 1,400 cents, 16,280 cents are due. The second list asks for February while January is next: refusal 7.
  */
 #include "kozempil.h"
@@ -26,7 +27,9 @@ static void bill(uint64_t month)
             [KOZEMPIL_CALL_KIND] = KOZEMPIL_KIND_OPENING,
             [KOZEMPIL_CALL_RIDER] = KOZEMPIL_RIDER_BANKED,
             [KOZEMPIL_CALL_CLASS] = KOZEMPIL_CLASS_HOME,
-            [KOZEMPIL_CALL_NAMEPLATE] = 5000,
+            [KOZEMPIL_CALL_NAMEPLATE_COUNT] = 2,
+            [KOZEMPIL_CALL_NAMEPLATE] = 3000,
+            [KOZEMPIL_CALL_NAMEPLATE + 1] = 2000,
             [KOZEMPIL_CALL_DEMAND_LIMIT] = 5000,
             [KOZEMPIL_CALL_ENERGY_PRICE + KOZEMPIL_PERIOD_CRITICAL] = 20000,
             [KOZEMPIL_CALL_ENERGY_PRICE + KOZEMPIL_PERIOD_ON_PEAK] = 20000,

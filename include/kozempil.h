@@ -23,20 +23,21 @@ extern "C" {
 
 /* The version of the layout of calls, answers and accounts. It rises when a place, a code or a number of a refusal is added or changed, so compare
  * it with what the library that you link says: KOZEMPIL_LAYOUT == kozempil_layout(). */
-#define KOZEMPIL_LAYOUT 2
+#define KOZEMPIL_LAYOUT 3
 uint32_t kozempil_layout(void);
 
 /* Numbers of a call, of an answer and of an account. */
-#define KOZEMPIL_CALL_LENGTH 18
+#define KOZEMPIL_CALL_LENGTH 26
 #define KOZEMPIL_ANSWER_LENGTH 60
-#define KOZEMPIL_ACCOUNT_LENGTH 23
+#define KOZEMPIL_ACCOUNT_LENGTH 31
 
-/* Limits: the last month, December 2099; the largest price (of a kWh or a kW) and the largest basic or minimum; the largest nameplate of a home
- * and of a business; the largest reading; the most critical days of a month; the most readings of a month; and what an account holds at most,
- * in Wh by period and in cents. */
+/* Limits: the last month, December 2099; the largest price (of a kWh or a kW) and the largest basic or minimum; the most nameplates, and the
+ * largest total of those of a home and of a business; the largest reading; the most critical days of a month; the most readings of a month; and
+ * what an account holds at most, in Wh by period and in cents. */
 #define KOZEMPIL_LAST_MONTH 1199
 #define KOZEMPIL_PRICE_LIMIT 1000000
 #define KOZEMPIL_AMOUNT_LIMIT 1000000
+#define KOZEMPIL_MOST_NAMEPLATES 8
 #define KOZEMPIL_HOME_LIMIT 20000
 #define KOZEMPIL_BUSINESS_LIMIT 1000000
 #define KOZEMPIL_READING_LIMIT 1000000
@@ -49,26 +50,27 @@ uint32_t kozempil_layout(void);
  * same billing that isn't lost, for sums and demand alike. A register is never written to, and a day view shows it as it is. */
 #define KOZEMPIL_LOST 4294967295U
 
-/* The number of an answer: 0, or why the call is refused. Where several apply, the first one is given in the order 1, 2, 3, 4, 5, 6, 11, 7, 8,
- * 9, 10, 13. */
+/* The number of an answer: 0, or why the call is refused. Where several apply, the first one is given in the order 1, 2, 3, 4, 12, 5, 6, 11, 7,
+ * 8, 9, 10, 13. */
 enum {
     KOZEMPIL_ACCEPTED = 0,
     KOZEMPIL_REFUSED_NOT_OPEN = 1,              /* repricing, billing or closing of a fresh account */
     KOZEMPIL_REFUSED_OPEN_ALREADY = 2,          /* opening of an open account */
     KOZEMPIL_REFUSED_CLOSED = 3,                /* the account is closed, or can't arise (below) */
     KOZEMPIL_REFUSED_PRICE_LIST = 4,            /* a price or amount above its limit, or an energy price above the one before */
-    KOZEMPIL_REFUSED_CAPACITY = 5,              /* nameplate 0, or above the demand limit or the limit of its class */
+    KOZEMPIL_REFUSED_CAPACITY = 5,              /* a nameplate of 0, or a total above the demand limit or the limit of its class */
     KOZEMPIL_REFUSED_NO_BRIDGE = 6,             /* bridge rider for a business */
     KOZEMPIL_REFUSED_MONTH = 7,                 /* first month above the last one, or billing of a month other than the next */
     KOZEMPIL_REFUSED_REGISTER_LENGTH = 8,       /* a register of another length than the month's */
     KOZEMPIL_REFUSED_CRITICAL_DAYS = 9,         /* critical days past the month's last, or too many */
     KOZEMPIL_REFUSED_READING = 10,              /* a reading above its limit, other than KOZEMPIL_LOST */
     KOZEMPIL_REFUSED_BOOK_FULL = 11,            /* billing when the last month has been billed */
+    KOZEMPIL_REFUSED_NAMEPLATES = 12,           /* no nameplates, or more than KOZEMPIL_MOST_NAMEPLATES */
     KOZEMPIL_REFUSED_FIRST_READING_LOST = 13    /* a register whose first reading is lost */
 };
 
 /* An account can't arise where it carries more than its limit in a period, has more standing than its limit, or a next month above
- * KOZEMPIL_LAST_MONTH + 1; or where it is open with terms or prices that an opening refuses by 4, 5 or 6. */
+ * KOZEMPIL_LAST_MONTH + 1; or where it is open with terms or prices that an opening refuses by 4, 12, 5 or 6. */
 
 /* Periods, dearest first: what to add to a place "by period". */
 enum { KOZEMPIL_PERIOD_CRITICAL = 0, KOZEMPIL_PERIOD_ON_PEAK = 1, KOZEMPIL_PERIOD_OFF_PEAK = 2, KOZEMPIL_PERIOD_DISCOUNT = 3 };
@@ -81,6 +83,11 @@ enum { KOZEMPIL_NOT_ASSISTED = 0, KOZEMPIL_ASSISTED = 1 };
 enum { KOZEMPIL_STAGE_FRESH = 0, KOZEMPIL_STAGE_OPEN = 1, KOZEMPIL_STAGE_CLOSED = 2 };
 enum { KOZEMPIL_DELIVERED = 0, KOZEMPIL_RECEIVED = 1 };
 
+/* Nameplates: how many there are, and KOZEMPIL_MOST_NAMEPLATES places, of which the first so many are the nameplates in W. What a
+ * nameplate limits, or is charged for, goes by their total; that each is at least 1 W goes by each. Any number can stand in these places: a wrong one
+ * is refused by 12 or 5, in an open account by 3, and never makes the numbers no call or no account. What stands in a place past the nameplates is
+ * none: no rule looks at it, and an account has it as it came. */
+
 /* Places of a call. Numbers that its kind doesn't name aren't read; write 0. */
 enum {
     KOZEMPIL_CALL_KIND = 0,
@@ -88,20 +95,21 @@ enum {
     /* of an opening */
     KOZEMPIL_CALL_RIDER = 1,
     KOZEMPIL_CALL_CLASS = 2,
-    KOZEMPIL_CALL_NAMEPLATE = 3,
-    KOZEMPIL_CALL_DEMAND_LIMIT = 4,             /* demand limit */
-    KOZEMPIL_CALL_ASSISTED = 5,
-    KOZEMPIL_CALL_FIRST_MONTH = 17,
+    KOZEMPIL_CALL_NAMEPLATE_COUNT = 3,          /* how many nameplates there are */
+    KOZEMPIL_CALL_NAMEPLATE = 4,                /* the first of KOZEMPIL_MOST_NAMEPLATES places */
+    KOZEMPIL_CALL_DEMAND_LIMIT = 12,            /* demand limit */
+    KOZEMPIL_CALL_ASSISTED = 13,
+    KOZEMPIL_CALL_FIRST_MONTH = 25,
 
     /* of an opening and a repricing: the price list */
-    KOZEMPIL_CALL_ENERGY_PRICE = 6,             /* by period */
-    KOZEMPIL_CALL_DEMAND_PRICE = 10,
-    KOZEMPIL_CALL_STANDBY_PRICE = 11,
-    KOZEMPIL_CALL_BYPASS_PRICE = 12,
-    KOZEMPIL_CALL_CREDIT_PRICE = 13,
-    KOZEMPIL_CALL_DISTRIBUTION_PRICE = 14,
-    KOZEMPIL_CALL_BASIC = 15,
-    KOZEMPIL_CALL_MINIMUM = 16,
+    KOZEMPIL_CALL_ENERGY_PRICE = 14,            /* by period */
+    KOZEMPIL_CALL_DEMAND_PRICE = 18,
+    KOZEMPIL_CALL_STANDBY_PRICE = 19,
+    KOZEMPIL_CALL_BYPASS_PRICE = 20,
+    KOZEMPIL_CALL_CREDIT_PRICE = 21,
+    KOZEMPIL_CALL_DISTRIBUTION_PRICE = 22,
+    KOZEMPIL_CALL_BASIC = 23,
+    KOZEMPIL_CALL_MINIMUM = 24,
 
     /* of a billing */
     KOZEMPIL_CALL_MONTH = 1,
@@ -149,20 +157,21 @@ enum {
     KOZEMPIL_ACCOUNT_STAGE = 0,
     KOZEMPIL_ACCOUNT_RIDER = 1,
     KOZEMPIL_ACCOUNT_CLASS = 2,
-    KOZEMPIL_ACCOUNT_NAMEPLATE = 3,
-    KOZEMPIL_ACCOUNT_DEMAND_LIMIT = 4,
-    KOZEMPIL_ACCOUNT_ASSISTED = 5,
-    KOZEMPIL_ACCOUNT_ENERGY_PRICE = 6,          /* by period */
-    KOZEMPIL_ACCOUNT_DEMAND_PRICE = 10,
-    KOZEMPIL_ACCOUNT_STANDBY_PRICE = 11,
-    KOZEMPIL_ACCOUNT_BYPASS_PRICE = 12,
-    KOZEMPIL_ACCOUNT_CREDIT_PRICE = 13,
-    KOZEMPIL_ACCOUNT_DISTRIBUTION_PRICE = 14,
-    KOZEMPIL_ACCOUNT_BASIC = 15,
-    KOZEMPIL_ACCOUNT_MINIMUM = 16,
-    KOZEMPIL_ACCOUNT_NEXT = 17,                 /* next month */
-    KOZEMPIL_ACCOUNT_CARRIED = 18,              /* by period */
-    KOZEMPIL_ACCOUNT_STANDING = 22
+    KOZEMPIL_ACCOUNT_NAMEPLATE_COUNT = 3,       /* how many nameplates there are */
+    KOZEMPIL_ACCOUNT_NAMEPLATE = 4,             /* the first of KOZEMPIL_MOST_NAMEPLATES places */
+    KOZEMPIL_ACCOUNT_DEMAND_LIMIT = 12,
+    KOZEMPIL_ACCOUNT_ASSISTED = 13,
+    KOZEMPIL_ACCOUNT_ENERGY_PRICE = 14,         /* by period */
+    KOZEMPIL_ACCOUNT_DEMAND_PRICE = 18,
+    KOZEMPIL_ACCOUNT_STANDBY_PRICE = 19,
+    KOZEMPIL_ACCOUNT_BYPASS_PRICE = 20,
+    KOZEMPIL_ACCOUNT_CREDIT_PRICE = 21,
+    KOZEMPIL_ACCOUNT_DISTRIBUTION_PRICE = 22,
+    KOZEMPIL_ACCOUNT_BASIC = 23,
+    KOZEMPIL_ACCOUNT_MINIMUM = 24,
+    KOZEMPIL_ACCOUNT_NEXT = 25,                 /* next month */
+    KOZEMPIL_ACCOUNT_CARRIED = 26,              /* by period */
+    KOZEMPIL_ACCOUNT_STANDING = 30
 };
 
 /* Places of a day view: how many readings of the register come before it, and how many it has. */

@@ -49,6 +49,7 @@ static void open_home(void)
     account[KOZEMPIL_ACCOUNT_STAGE] = KOZEMPIL_STAGE_OPEN;
     account[KOZEMPIL_ACCOUNT_RIDER] = KOZEMPIL_RIDER_BANKED;
     account[KOZEMPIL_ACCOUNT_CLASS] = KOZEMPIL_CLASS_HOME;
+    account[KOZEMPIL_ACCOUNT_NAMEPLATE_COUNT] = 1;
     account[KOZEMPIL_ACCOUNT_NAMEPLATE] = 5000;
     account[KOZEMPIL_ACCOUNT_DEMAND_LIMIT] = 6000;
     account[KOZEMPIL_ACCOUNT_ENERGY_PRICE + KOZEMPIL_PERIOD_CRITICAL] = 40000;
@@ -93,6 +94,7 @@ static void ask_to_open(void)
 {
     clear();
     call[KOZEMPIL_CALL_KIND] = KOZEMPIL_KIND_OPENING;
+    call[KOZEMPIL_CALL_NAMEPLATE_COUNT] = 1;
     call[KOZEMPIL_CALL_NAMEPLATE] = 5000;
     call[KOZEMPIL_CALL_DEMAND_LIMIT] = 6000;
 }
@@ -106,8 +108,14 @@ static void codes_and_places_of_an_opening(void)
     } places[] = {
         {"rider", KOZEMPIL_CALL_RIDER, KOZEMPIL_ACCOUNT_RIDER, KOZEMPIL_RIDER_BRIDGE},
         {"class", KOZEMPIL_CALL_CLASS, KOZEMPIL_ACCOUNT_CLASS, KOZEMPIL_CLASS_HOME},
-        {"nameplate", KOZEMPIL_CALL_NAMEPLATE, KOZEMPIL_ACCOUNT_NAMEPLATE, 7001},
-        {"limit", KOZEMPIL_CALL_DEMAND_LIMIT, KOZEMPIL_ACCOUNT_DEMAND_LIMIT, 7002},
+        {"count", KOZEMPIL_CALL_NAMEPLATE_COUNT, KOZEMPIL_ACCOUNT_NAMEPLATE_COUNT, 3},
+        {"nameplate 0", KOZEMPIL_CALL_NAMEPLATE, KOZEMPIL_ACCOUNT_NAMEPLATE, 7001},
+        {"nameplate 1", KOZEMPIL_CALL_NAMEPLATE + 1, KOZEMPIL_ACCOUNT_NAMEPLATE + 1, 801},
+        {"nameplate 2", KOZEMPIL_CALL_NAMEPLATE + 2, KOZEMPIL_ACCOUNT_NAMEPLATE + 2, 802},
+        {"past the nameplates", KOZEMPIL_CALL_NAMEPLATE + 3, KOZEMPIL_ACCOUNT_NAMEPLATE + 3, UINT64_MAX},
+        {"last place of nameplates", KOZEMPIL_CALL_NAMEPLATE + KOZEMPIL_MOST_NAMEPLATES - 1,
+         KOZEMPIL_ACCOUNT_NAMEPLATE + KOZEMPIL_MOST_NAMEPLATES - 1, UINT64_MAX - 1},
+        {"limit", KOZEMPIL_CALL_DEMAND_LIMIT, KOZEMPIL_ACCOUNT_DEMAND_LIMIT, 8604},
         {"assisted", KOZEMPIL_CALL_ASSISTED, KOZEMPIL_ACCOUNT_ASSISTED, KOZEMPIL_ASSISTED},
         {"critical", KOZEMPIL_CALL_ENERGY_PRICE + KOZEMPIL_PERIOD_CRITICAL, KOZEMPIL_ACCOUNT_ENERGY_PRICE + KOZEMPIL_PERIOD_CRITICAL, 904},
         {"on-peak", KOZEMPIL_CALL_ENERGY_PRICE + KOZEMPIL_PERIOD_ON_PEAK, KOZEMPIL_ACCOUNT_ENERGY_PRICE + KOZEMPIL_PERIOD_ON_PEAK, 903},
@@ -277,6 +285,73 @@ static void lines_of_a_bridge_bill(void)
     ask_to_bill(JANUARY, 0);
     same("bill of a business", number(), KOZEMPIL_ACCEPTED);
     same("standby", answer[KOZEMPIL_ANSWER_STANDBY], 1000);
+}
+
+/* Two roofs of 5,000 and 3,001 W, 8,001 W in all, of an assisted home under the bridge rider: bypass at 50,000 is 400.05, so 400, and the minimum of
+ * 2,200 is not spared. With 3,000 W on the second roof it is. Of a business, 60,000 and 40,001 W at 172,350 are a standby of 17,235.17, so 17,235. */
+static void several_nameplates(void)
+{
+    open_home();
+    account[KOZEMPIL_ACCOUNT_RIDER] = KOZEMPIL_RIDER_BRIDGE;
+    account[KOZEMPIL_ACCOUNT_NAMEPLATE_COUNT] = 2;
+    account[KOZEMPIL_ACCOUNT_NAMEPLATE + 1] = 3001;
+    account[KOZEMPIL_ACCOUNT_NAMEPLATE + 2] = UINT64_MAX;
+    account[KOZEMPIL_ACCOUNT_DEMAND_LIMIT] = 9000;
+    account[KOZEMPIL_ACCOUNT_ASSISTED] = KOZEMPIL_ASSISTED;
+    account[KOZEMPIL_ACCOUNT_BYPASS_PRICE] = 50000;
+    account[KOZEMPIL_ACCOUNT_MINIMUM] = 2200;
+    ask_to_bill(JANUARY, 0);
+    same("bill of two roofs", number(), KOZEMPIL_ACCEPTED);
+    same("bypass of both", answer[KOZEMPIL_ANSWER_BYPASS], 400);
+    same("shortfall of both", answer[KOZEMPIL_ANSWER_SHORTFALL], 2200);
+    same("second roof", after[KOZEMPIL_ACCOUNT_NAMEPLATE + 1], 3001);
+    same("past the roofs", after[KOZEMPIL_ACCOUNT_NAMEPLATE + 2], UINT64_MAX);
+    account[KOZEMPIL_ACCOUNT_NAMEPLATE + 1] = 3000;
+    same("bill of a watt less", number(), KOZEMPIL_ACCEPTED);
+    same("shortfall of a watt less", answer[KOZEMPIL_ANSWER_SHORTFALL], 0);
+    account[KOZEMPIL_ACCOUNT_NAMEPLATE_COUNT] = 3;
+    same("account whose total doesn't fit 64 bits", number(), KOZEMPIL_REFUSED_CLOSED);
+    account[KOZEMPIL_ACCOUNT_NAMEPLATE_COUNT] = KOZEMPIL_MOST_NAMEPLATES + 1;
+    same("account of nine", number(), KOZEMPIL_REFUSED_CLOSED);
+    same("count of the account after it", after[KOZEMPIL_ACCOUNT_NAMEPLATE_COUNT], KOZEMPIL_MOST_NAMEPLATES + 1);
+
+    open_home();
+    account[KOZEMPIL_ACCOUNT_CLASS] = KOZEMPIL_CLASS_BUSINESS;
+    account[KOZEMPIL_ACCOUNT_NAMEPLATE_COUNT] = 2;
+    account[KOZEMPIL_ACCOUNT_NAMEPLATE] = 60000;
+    account[KOZEMPIL_ACCOUNT_NAMEPLATE + 1] = 40001;
+    account[KOZEMPIL_ACCOUNT_DEMAND_LIMIT] = 120000;
+    account[KOZEMPIL_ACCOUNT_STANDBY_PRICE] = 172350;
+    ask_to_bill(JANUARY, 0);
+    same("bill of a business of two roofs", number(), KOZEMPIL_ACCEPTED);
+    same("standby of both", answer[KOZEMPIL_ANSWER_STANDBY], 17235);
+
+    /* 12, before 5 and behind 4. A total of 64 bits and more is refused by 5, also where it would wrap to 5,000. */
+    ask_to_open();
+    call[KOZEMPIL_CALL_DEMAND_LIMIT] = UINT64_MAX;
+    for (int place = 0; place < KOZEMPIL_MOST_NAMEPLATES; place++)
+        call[KOZEMPIL_CALL_NAMEPLATE + place] = 1000;
+    for (uint64_t count = 1; count <= KOZEMPIL_MOST_NAMEPLATES; count++) {
+        call[KOZEMPIL_CALL_NAMEPLATE_COUNT] = count;
+        same("one to eight nameplates", number(), KOZEMPIL_ACCEPTED);
+    }
+    call[KOZEMPIL_CALL_NAMEPLATE + KOZEMPIL_MOST_NAMEPLATES - 1] = 0;
+    same("the last one 0", number(), KOZEMPIL_REFUSED_CAPACITY);
+    call[KOZEMPIL_CALL_NAMEPLATE_COUNT] = KOZEMPIL_MOST_NAMEPLATES + 1;
+    same("nine nameplates", number(), KOZEMPIL_REFUSED_NAMEPLATES);
+    call[KOZEMPIL_CALL_NAMEPLATE_COUNT] = UINT64_C(4294967297);
+    same("so many that 32 bits have 1", number(), KOZEMPIL_REFUSED_NAMEPLATES);
+    call[KOZEMPIL_CALL_NAMEPLATE_COUNT] = 0;
+    same("no nameplates", number(), KOZEMPIL_REFUSED_NAMEPLATES);
+    call[KOZEMPIL_CALL_MINIMUM] = KOZEMPIL_AMOUNT_LIMIT + 1;
+    same("no nameplates and a minimum above its limit", number(), KOZEMPIL_REFUSED_PRICE_LIST);
+    ask_to_open();
+    call[KOZEMPIL_CALL_NAMEPLATE_COUNT] = 2;
+    call[KOZEMPIL_CALL_NAMEPLATE] = UINT64_C(9223372036854775808);
+    call[KOZEMPIL_CALL_NAMEPLATE + 1] = UINT64_C(9223372036854780808);
+    same("total past 64 bits", number(), KOZEMPIL_REFUSED_CAPACITY);
+    call[KOZEMPIL_CALL_DEMAND_LIMIT] = UINT64_MAX;
+    same("total past 64 bits, and the largest demand limit", number(), KOZEMPIL_REFUSED_CAPACITY);
 }
 
 static void refusals_and_limits(void)
@@ -520,6 +595,7 @@ int main(void)
     codes_and_places_of_an_opening();
     rows_of_a_banked_bill();
     lines_of_a_bridge_bill();
+    several_nameplates();
     refusals_and_limits();
     lost_readings();
     lists_and_counts();

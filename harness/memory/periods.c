@@ -32,6 +32,7 @@ static char period_of(uint32_t month)
 {
     const uint64_t opening[KOZEMPIL_CALL_LENGTH] = {
         [KOZEMPIL_CALL_KIND] = KOZEMPIL_KIND_OPENING,
+        [KOZEMPIL_CALL_NAMEPLATE_COUNT] = 1,
         [KOZEMPIL_CALL_NAMEPLATE] = 1,
         [KOZEMPIL_CALL_DEMAND_LIMIT] = 1,
         [KOZEMPIL_CALL_FIRST_MONTH] = month,

@@ -1,8 +1,11 @@
 //! Random calls and accounts. Most are accepted; each limit of 01 is met at,
-//! below and above now and then, and some registers have gaps.
+//! below and above now and then, some terms have several nameplates, and some registers
+//! have gaps.
 
 use crate::random::Random;
-use crate::reference::account::{Account, Assisted, Class, PriceList, Rider, State, Terms};
+use crate::reference::account::{
+    Account, Assisted, Class, Nameplates, PriceList, Rider, State, Terms, MOST_NAMEPLATES,
+};
 use crate::reference::calendar::{days_in_month, LAST_MONTH};
 use crate::reference::gaps::LOST;
 use crate::reference::hours::register_length;
@@ -67,22 +70,69 @@ pub fn terms(random: &mut Random) -> Terms {
         Class::Home => (LARGEST_HOME, ASSISTED_FREE),
         Class::Business => (LARGEST_BUSINESS, STANDBY_FREE),
     };
-    let nameplate = match random.below(8) {
+    let total = match random.below(8) {
         0 => near(random, class_limit),
         1..=3 => turning_point + random.up_to(2) - 1,
         _ => 1 + random.up_to(class_limit - 1),
     };
     let demand_limit = match random.below(8) {
-        0 => near(random, nameplate),
-        _ => nameplate.saturating_add(random.up_to(1000)),
+        0 => near(random, total),
+        _ => total.saturating_add(random.up_to(1000)),
     };
     Terms {
         rider,
         class,
-        nameplate,
+        // Aside: the rest of a seed's numbers doesn't depend on how many nameplates there are.
+        nameplates: nameplates(&mut random.aside(), total),
         demand_limit,
         assisted: random.pick([Assisted::No, Assisted::Yes]),
     }
+}
+
+/// The total in one nameplate, or in several; now and then with a 0 among them, a total past
+/// 32 or 64 bits, or a count that is refused.
+fn nameplates(random: &mut Random, total: u32) -> Nameplates {
+    let total = u64::from(total);
+    if random.once_in(2) {
+        return Nameplates::one(total);
+    }
+    let count = random.up_to(MOST_NAMEPLATES as u32) as usize;
+    let mut nameplates = Nameplates {
+        count: count as u64,
+        places: split(random, total, count),
+    };
+    match random.below(10) {
+        0 => nameplates.places[random.below(nameplates.count) as usize] = 0,
+        1 => {
+            // In 32 bits, or in 64, the total would be the one given.
+            let half = random.pick([1 << 31, 1 << 32, 1 << 63]);
+            nameplates.count = MOST_NAMEPLATES as u64;
+            nameplates.places = split(random, total, MOST_NAMEPLATES);
+            nameplates.places[0] += half;
+            nameplates.places[random.pick([1, 4, 7])] += half;
+        }
+        2 => nameplates.count = random.pick([0, 9, 10, 1 << 32, (1 << 32) + 1, u64::MAX]),
+        _ => {}
+    }
+    for place in nameplates.each().len()..MOST_NAMEPLATES {
+        nameplates.places[place] = random.pick([0, 1, total, 1 << 32, u64::MAX]);
+    }
+    nameplates
+}
+
+/// A total cut into so many parts, none of them 0 where it suffices.
+fn split(random: &mut Random, total: u64, count: usize) -> [u64; MOST_NAMEPLATES] {
+    let mut places = [0; MOST_NAMEPLATES];
+    let mut left = total;
+    for (place, part) in places[..count].iter_mut().enumerate() {
+        let others = (count - 1 - place) as u64;
+        *part = match others {
+            0 => left,
+            _ => left.min(1 + random.below(left.saturating_sub(others))),
+        };
+        left -= *part;
+    }
+    places
 }
 
 pub fn price_list(random: &mut Random) -> PriceList {

@@ -10,6 +10,11 @@ impl Random {
         Random { state: seed }
     }
 
+    /// Other numbers, which depend on what comes next here and leave it as it is.
+    pub fn aside(&self) -> Random {
+        Random::new(self.clone().next_u64())
+    }
+
     /// Any 64-bit number.
     pub fn next_u64(&mut self) -> u64 {
         self.state = self.state.wrapping_add(0x9e37_79b9_7f4a_7c15);

@@ -51,7 +51,9 @@ class Files(unittest.TestCase):
                     file.seek(0)
 
     def test_byte_by_byte_through_a_pipe(self):
-        for name in "teacher-3-credit-falls-to-cheaper-hours", "fine-no-final-newline", "line-after-a-complete-month":
+        names = ["teacher-3-credit-falls-to-cheaper-hours", "fine-no-final-newline", "line-after-a-complete-month"]
+        names += ["fine-eight-nameplates-of-ten-digits", "line-nameplates-of-98-bytes"]  # the longest line, and a byte more
+        for name in names:
             child = subprocess.Popen([PROGRAM], stdin=subprocess.PIPE, stdout=subprocess.PIPE, bufsize=0)
             try:
                 for byte in text(os.path.join(ROOT, f"examples/{name}.in")).encode("latin-1"):

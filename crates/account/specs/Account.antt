@@ -3,12 +3,14 @@ use mathlib.Core.Bool.{Bool, false, cond}
 use mathlib.Core.List.{List}
 use Prim.Native.Nat.{ℕ, _+_}
 use lib.Dec.{eqb}
+use lib.ListN.{replicate}
 use Rattle.hours.specs.Hours.{fixedSchedule, byPeriod}
 use Rattle.registers.specs.Registers.{sumOf, demandPower}
 use Rattle.tariff.specs.declared.Rider.the-variants.{Banked}
 use Rattle.tariff.specs.declared.Class.the-variants.{Home}
 use Rattle.tariff.specs.declared.Terms.{Terms}
 use Rattle.tariff.specs.declared.PriceList.{PriceList}
+use Rattle.tariff.specs.Tariff.{mostNameplates}
 use Rattle.account.specs.declared.Stage.the-variants.{Fresh, Open, Closed}
 use Rattle.account.specs.declared.Account.{Account}
 use Rattle.account.specs.declared.ClosingAmounts.{ClosingAmounts}
@@ -24,7 +26,15 @@ abbrev pub freshAccount : Account
 freshAccount =
     record {
       stage = Fresh;
-      terms = record { rider = Banked; class = Home; nameplate = 0; limit = 0; assisted = false };
+      terms =
+          record {
+            rider = Banked;
+            class = Home;
+            count = 0;
+            nameplates = replicate mostNameplates 0;
+            limit = 0;
+            assisted = false;
+          };
       prices =
           record {
             energy = none;

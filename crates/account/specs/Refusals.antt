@@ -37,7 +37,7 @@ isClosed Closed = true
 abbrev pub highestNext : ℕ
 highestNext = lastMonth + 1
 
--- "contents that an opening's checks placed between 3 and 7 (here 4, 5 and 6) refuse"
+-- "contents that an opening's checks placed between 3 and 7 (here 4, 5 and 6) refuse"; 02 No. 3 places 12 there too.
 unfoldable pub contentsRefused : Terms → PriceList → Bool
 contentsRefused t l = someApplies (contentsRows t l)
 

@@ -236,7 +236,8 @@ impl Account {
             terms: Terms {
                 rider: Rider::Banked,
                 class: Class::Home,
-                nameplate: 0,
+                count: 0,
+                nameplates: [0; tariff::MOST_NAMEPLATES],
                 limit: 0,
                 assisted: false,
             },

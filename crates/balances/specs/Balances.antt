@@ -3,7 +3,7 @@
 -- that charges a watt-hour in a period has left 0 and paid 0 there and in each dearer period." Document 01 says of the totals: "each total of
 -- demand 3 is a sum over the answers returned: forfeited from bills and closings, refunded from closings, the others from bills. Exported and
 -- delivered are instead summed as in step 2 from the registers of the bills answered 0. Left (the carried Wh) and standing are those of the
--- account after the list."
+-- account after the list." 02 No. 3: "The balances hold for accounts with any such set" of nameplates; the openings of a list have any terms.
 use mathlib.Core.Path.{_≡_}
 use mathlib.Core.Bool.{cond}
 use mathlib.Core.List.{List, [], _∷_}

@@ -1,7 +1,8 @@
 -- Document 01, "Figures for the wall chart": a to l, as one chart.
 use mathlib.Core.Path.{_≡_}
 use mathlib.Core.Bool.{Bool, true, false}
-use Prim.Native.Nat.{ℕ}
+use mathlib.Core.List.{List, _∷_}
+use Prim.Native.Nat.{ℕ, _-_}
 use lib.ListN.{replicate}
 use Rattle.calendar.specs.Calendar.{monthNumber, firstWeekday, monthLength}
 use Rattle.hours.specs.Hours.{onPeak, fixedSchedule}
@@ -12,6 +13,7 @@ use Rattle.tariff.specs.declared.Rider.the-variants.{Banked, Bridge}
 use Rattle.tariff.specs.declared.Class.the-variants.{Home, Business}
 use Rattle.tariff.specs.declared.Terms.{Terms}
 use Rattle.tariff.specs.declared.PriceList.{PriceList}
+use Rattle.tariff.specs.Tariff.{mostNameplates}
 use Rattle.charges.specs.Charges.{cents, standbyLine, shortfallLine, grantedOf}
 use Rattle.billing.specs.Billing.{none, billFrom}
 use Rattle.billing.specs.declared.Bill.{Bill}
@@ -37,12 +39,16 @@ chartPrices =
       minimum = 2200;
     }
 
+-- One nameplate of w W, in the first of eight places.
+abbrev pub oneNameplate : ℕ → List ℕ
+oneNameplate w = w ∷ replicate (mostNameplates - 1) 0
+
 -- A home under the bridge rider, assisted or not, and a business; w is the nameplate.
 abbrev pub bridgeHome : Bool → ℕ → Terms
-bridgeHome assisted w = record { rider = Bridge; class = Home; nameplate = w; limit = w; assisted = assisted }
+bridgeHome assisted w = record { rider = Bridge; class = Home; count = 1; nameplates = oneNameplate w; limit = w; assisted = assisted }
 
 abbrev pub bankedBusiness : ℕ → Terms
-bankedBusiness w = record { rider = Banked; class = Business; nameplate = w; limit = w; assisted = false }
+bankedBusiness w = record { rider = Banked; class = Business; count = 1; nameplates = oneNameplate w; limit = w; assisted = false }
 
 -- Figure k: July 2001.
 abbrev pub july2001 : ℕ

@@ -7,30 +7,34 @@ use native.Mathlib.Omega.{arith}
 use lib.ListN.{length, getD, drop, set}
 use lib.Seq.{getD-set-other}
 use Rattle.text.specs.Text.{bytesOf}
-use Rattle.numerals.specs.Numerals.{numberIn, monthIn, numbersIn}
+use Rattle.numerals.specs.Numerals.{numberIn, monthIn, numbersIn, numbersUpTo}
 use Rattle.numerals.proofs.Digits.{number-long}
-use Rattle.numerals.proofs.Sizes.{Reader, Short, Few, number-few, month-short, month-few, numbers-short, numbers-all}
+use Rattle.numerals.proofs.Sizes.{Reader, Short, Few, number-few, month-short, month-few}
+use Rattle.numerals.proofs.Sizes.{numbers-short, numbers-all, up-to-short, up-to-few}
 use Rattle.grammar.specs.Grammar.{choiceIn, keyed}
-use Rattle.grammar.specs.Grammar.{openingLines, openingLine, billLine, criticalLine, runLine}
+use Rattle.grammar.specs.Grammar.{openingLines, openingLine, billLine, criticalLine, runLine, longestLine}
 use Rattle.grammar.proofs.Sizes.{choice-short, choice-few, keyed-either, keyed-short, keyed-few}
 
 -- A line that is read by a key.
 abbrev Readable : Reader → Type 0
-Readable read = Short 50 read
+Readable read = Short longestLine read
 
 module _ (key : List ℕ) where
   a-number : length key ≤ 40 → Readable (keyed key numberIn)
-  a-number h = keyed-short key numberIn 10 50 (omega arith) number-long
+  a-number h = keyed-short key numberIn 10 longestLine (omega arith) number-long
 
   a-month : length key ≤ 40 → Readable (keyed key monthIn)
-  a-month h = keyed-short key monthIn 7 50 (omega arith) month-short
+  a-month h = keyed-short key monthIn 7 longestLine (omega arith) month-short
 
   a-choice : (first second : List ℕ) → length key ≤ 40 → length first ≤ 10 → length second ≤ 10
       → Readable (keyed key (choiceIn first second))
-  a-choice first second h p q = keyed-short key (choiceIn first second) 10 50 (omega arith) (choice-short 10 first second p q)
+  a-choice first second h p q = keyed-short key (choiceIn first second) 10 longestLine (omega arith) (choice-short 10 first second p q)
 
   some-numbers : (n : ℕ) → length key ≤ 7 → n ≤ 4 → Readable (keyed key (numbersIn n))
-  some-numbers n h p = keyed-short key (numbersIn n) 43 50 (omega arith) (λ l long. numbers-short n l (omega arith))
+  some-numbers n h p = keyed-short key (numbersIn n) 43 longestLine (omega arith) (λ l long. numbers-short n l (omega arith))
+
+nameplates : Readable (keyed (bytesOf "nameplate=") (numbersUpTo 8))
+nameplates = keyed-short (bytesOf "nameplate=") (numbersUpTo 8) 87 longestLine (omega arith) (up-to-short 8)
 
 -- What holds of each of some readers and of none holds of the one at a place.
 abbrev All : (Reader → Type 0) → List Reader → Type 0
@@ -51,7 +55,7 @@ opening-readable =
         (
           a-choice _ _ _ (omega arith) (omega arith) (omega arith),
           (
-            a-number _ (omega arith),
+            nameplates,
             (
               a-number _ (omega arith),
               (
@@ -98,33 +102,34 @@ run-readable : Readable runLine
 unfolding runLine
 run-readable = some-numbers (bytesOf "run=") 3 (omega arith) (omega arith)
 
--- A line of more than 50 bytes is unreadable.
-pub opening-short : (k : ℕ) (l : List ℕ) → 50 < length l → openingLine k l ≡ []
+-- A line longer than the longest is unreadable.
+pub opening-short : (k : ℕ) (l : List ℕ) → longestLine < length l → openingLine k l ≡ []
 unfolding openingLine
 opening-short k = opening-readable k
 
-pub bill-short : (l : List ℕ) → 50 < length l → billLine l ≡ []
+pub bill-short : (l : List ℕ) → longestLine < length l → billLine l ≡ []
 bill-short = bill-readable
 
-pub critical-short : (l : List ℕ) → 50 < length l → criticalLine l ≡ []
+pub critical-short : (l : List ℕ) → longestLine < length l → criticalLine l ≡ []
 critical-short = critical-readable
 
-pub run-short : (l : List ℕ) → 50 < length l → runLine l ≡ []
+pub run-short : (l : List ℕ) → longestLine < length l → runLine l ≡ []
 run-short = run-readable
 
--- Prices are four numbers or none, and every other line of the opening gives one or none.
-pub opening-count : (k : ℕ) (l : List ℕ) → (k ≡ 6 → ⊥) → length (openingLine k l) ≤ 1
+-- Nameplates are up to eight numbers, prices are four or none, and every other line of the opening gives one or none.
+pub opening-count : (k : ℕ) (l : List ℕ) → (k ≡ 6 → ⊥) → (k ≡ 3 → ⊥) → length (openingLine k l) ≤ 1
 unfolding openingLine
-opening-count k l h =
-    rw (← (getD-set-other openingLines 6 k (λ l. []) (λ l. []) h))
-    (all-at (Few 1) (set openingLines 6 (λ l. [])) (
+opening-count k l prices plates =
+    let others = set openingLines 6 (λ l. []) in
+    rw (← (getD-set-other openingLines 6 k (λ l. []) (λ l. []) prices), ← (getD-set-other others 3 k (λ l. []) (λ l. []) plates))
+    (all-at (Few 1) (set others 3 (λ l. [])) (
       keyed-few _ monthIn 1 month-few,
       (
         keyed-few _ _ 1 (choice-few _ _),
         (
           keyed-few _ _ 1 (choice-few _ _),
           (
-            keyed-few _ numberIn 1 number-few,
+            (λ l. omega arith),
             (
               keyed-few _ numberIn 1 number-few,
               (
@@ -158,6 +163,10 @@ opening-count k l h =
       ),
     )
     (λ l. omega arith) k l)
+
+pub nameplates-count : (l : List ℕ) → length (openingLine 3 l) ≤ 8
+unfolding openingLine
+nameplates-count = keyed-few (bytesOf "nameplate=") (numbersUpTo 8) 8 (up-to-few 8)
 
 pub prices-count : (l : List ℕ) → (length (openingLine 6 l) ≡ 0) ⊎ (length (openingLine 6 l) ≡ 4)
 unfolding openingLine

@@ -74,7 +74,7 @@ abbrev begins : List ℕ
 begins = 0 ∷ 6 ∷ 12 ∷ 18 ∷ 28 ∷ 34 ∷ 43 ∷ 50 ∷ 57 ∷ 65 ∷ 72 ∷ 79 ∷ 92 ∷ 98 ∷ 106 ∷ []
 
 abbrev kinds : List ℕ
-kinds = 0 ∷ 1 ∷ 2 ∷ 6 ∷ 6 ∷ 3 ∷ 4 ∷ 6 ∷ 6 ∷ 6 ∷ 6 ∷ 6 ∷ 6 ∷ 6 ∷ []
+kinds = 0 ∷ 1 ∷ 2 ∷ 6 ∷ 7 ∷ 3 ∷ 4 ∷ 7 ∷ 7 ∷ 7 ∷ 7 ∷ 7 ∷ 7 ∷ 7 ∷ []
 
 -- Each key is among them, and the line is read by it.
 pub key-within : (k : ℕ) → k < 14 → (getD begins k 0 ≤ getD begins (k + 1) 0) × (getD begins (k + 1) 0 ≤ 106)
@@ -114,7 +114,7 @@ opening-at (suc (suc (suc (suc (suc (suc (suc (suc (suc (suc (suc (suc (suc zero
 opening-at (suc (suc (suc (suc (suc (suc (suc (suc (suc (suc (suc (suc (suc (suc k)))))))))))))) l h = absurd (omega arith)
 
 -- Past the other kinds there is a number.
-pub value-number : (k : ℕ) (l : List ℕ) → 6 ≤ k → valueIn k l ≡ numberIn l
+pub value-number : (k : ℕ) (l : List ℕ) → 7 ≤ k → valueIn k l ≡ numberIn l
 value-number k l h = ap (λ (read : List ℕ → List ℕ). read l) (List·getD-eq-default values numberIn h)
 
 -- A kind that isn't kind n comes after it.

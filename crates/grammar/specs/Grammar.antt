@@ -2,11 +2,11 @@
 -- What a line gives are numbers: a month its number, the first of two words 0 and the second 1; none where the line is unreadable.
 use mathlib.Core.Bool.{Bool, true, false, cond, _&&_}
 use mathlib.Core.List.{List, [], _∷_}
-use Prim.Native.Nat.{ℕ}
+use Prim.Native.Nat.{ℕ, _+_, _*_}
 use lib.Dec.{eqb}
 use lib.ListN.{length, getD, drop}
 use Rattle.text.specs.Text.{bytesOf}
-use Rattle.numerals.specs.Numerals.{numberIn, monthIn, numbersIn}
+use Rattle.numerals.specs.Numerals.{numberIn, monthIn, numbersIn, numbersUpTo}
 
 -- Whether a line begins with a text, and whether it is that text.
 unfoldable pub beginsWith : List ℕ → List ℕ → Bool
@@ -25,13 +25,14 @@ choiceIn first second l = cond (isText first l) (0 ∷ []) (cond (isText second 
 unfoldable pub keyed : List ℕ → (List ℕ → List ℕ) → List ℕ → List ℕ
 keyed key read l = cond (beginsWith key l) (read (drop (length key) l)) []
 
--- "in this fixed order; the first fourteen open the account"
+-- "in this fixed order; the first fourteen open the account". 02 No. 3: "the nameplate line holds one to eight, commas between; another count is
+-- unreadable".
 abbrev pub openingLines : List (List ℕ → List ℕ)
 openingLines =
     keyed (bytesOf "opens=") monthIn
     ∷ keyed (bytesOf "rider=") (choiceIn (bytesOf "banked") (bytesOf "bridge"))
     ∷ keyed (bytesOf "class=") (choiceIn (bytesOf "home") (bytesOf "business"))
-    ∷ keyed (bytesOf "nameplate=") numberIn
+    ∷ keyed (bytesOf "nameplate=") (numbersUpTo 8)
     ∷ keyed (bytesOf "limit=") numberIn
     ∷ keyed (bytesOf "assisted=") (choiceIn (bytesOf "no") (bytesOf "yes"))
     ∷ keyed (bytesOf "prices=") (numbersIn 4)
@@ -57,3 +58,7 @@ criticalLine l = keyed (bytesOf "critical=") numberIn l
 
 unfoldable pub runLine : List ℕ → List ℕ
 runLine l = keyed (bytesOf "run=") (numbersIn 3) l
+
+-- No readable line is longer than this: `nameplate=`, eight numbers of ten digits and seven commas.
+abbrev pub longestLine : ℕ
+longestLine = 10 + 8 * 10 + 7

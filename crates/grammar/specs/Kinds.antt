@@ -3,7 +3,7 @@ use mathlib.Core.List.{List, [], _∷_}
 use Prim.Native.Nat.{ℕ}
 use lib.ListN.{getD}
 use Rattle.text.specs.Text.{bytesOf}
-use Rattle.numerals.specs.Numerals.{numberIn, monthIn, numbersIn}
+use Rattle.numerals.specs.Numerals.{numberIn, monthIn, numbersIn, numbersUpTo}
 use Rattle.grammar.specs.Grammar.{choiceIn}
 
 -- A month, one of two words, several numbers, and otherwise one.
@@ -15,6 +15,7 @@ values =
     ∷ choiceIn (bytesOf "no") (bytesOf "yes")
     ∷ numbersIn 4
     ∷ numbersIn 3
+    ∷ numbersUpTo 8
     ∷ []
 
 abbrev pub valueIn : ℕ → List ℕ → List ℕ

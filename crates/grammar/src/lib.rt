@@ -20,7 +20,9 @@ const PRICES: u32 = 4;
 
 const RUN: u32 = 5;
 
-const NUMBER: u32 = 6;
+const NAMEPLATES: u32 = 6;
+
+const NUMBER: u32 = 7;
 
 // The lines that open the account.
 const LINES: u32 = 14;
@@ -33,7 +35,7 @@ const KINDS: [u32; 14] = [
     MONTH,
     RIDER,
     CLASS,
-    NUMBER,
+    NAMEPLATES,
     NUMBER,
     ASSISTED,
     PRICES,
@@ -53,6 +55,10 @@ const FIRST_WORD: Numbers = Numbers {
     second: 0,
     third: 0,
     fourth: 0,
+    fifth: 0,
+    sixth: 0,
+    seventh: 0,
+    eighth: 0,
 };
 
 const SECOND_WORD: Numbers = Numbers {
@@ -61,6 +67,10 @@ const SECOND_WORD: Numbers = Numbers {
     second: 0,
     third: 0,
     fourth: 0,
+    fifth: 0,
+    sixth: 0,
+    seventh: 0,
+    eighth: 0,
 };
 
 // Whether a line begins with a text.
@@ -114,6 +124,7 @@ fn value_in(text: &[u8], kind: u32) -> Numbers
         ASSISTED => choice_in(text, b"no", b"yes"),
         PRICES => numerals::numbers_in(text, 4),
         RUN => numerals::numbers_in(text, 3),
+        NAMEPLATES => numerals::numbers_up_to(text, 8),
         _ => numerals::number_in(text),
     }
 }

@@ -9,6 +9,7 @@ use lib.Dec.{leb}
 use lib.ListN.{length, getD, length-append}
 use lib.Seq.{sets}
 use Rattle.hours.specs.Hours.{four}
+use Rattle.tariff.specs.Tariff.{mostNameplates}
 use Rattle.account.specs.declared.Stage.{Stage}
 use Rattle.account.specs.declared.Stage.the-variants.{Fresh, Open, Closed}
 use Rattle.account.specs.declared.Account.{Account}
@@ -52,9 +53,9 @@ module _ (a : Account) where
   unfolding accountRow
   terms-known-here = rw (append-assoc (stage ++ terms) prices rest) (terms-known stage termsPlace refl (a .terms) (prices ++ rest))
 
-  terms-here : termsAt (accountRow a) termsPlace ≡ a .terms
+  terms-here : length (a .terms .nameplates) ≡ mostNameplates → termsAt (accountRow a) termsPlace ≡ a .terms
   unfolding accountRow
-  terms-here = rw (append-assoc (stage ++ terms) prices rest) (terms-back stage termsPlace refl (a .terms) (prices ++ rest))
+  terms-here eight = rw (append-assoc (stage ++ terms) prices rest) (terms-back stage termsPlace refl (a .terms) (prices ++ rest) eight)
 
   prices-here : pricesAt (accountRow a) pricesPlace ≡ a .prices
   unfolding accountRow
@@ -88,14 +89,14 @@ module _ (a : Account) where
         before-prices,
       )
 
--- What is written of an account is read back as that one,
-read-back : (a : Account) → accountAt (accountRow a) ≡ a
+-- What is written of an account is read back as that one. The terms of every account have eight places for nameplates in the code,
+read-back : (a : Account) → length (a .terms .nameplates) ≡ mostNameplates → accountAt (accountRow a) ≡ a
 unfolding accountAt
-read-back a =
+read-back a eight =
     rw (
       stage-here a,
       stage-back (a .stage),
-      terms-here a,
+      terms-here a eight,
       prices-here a,
       rest-here a 0,
       rest-here a 1,
@@ -105,11 +106,12 @@ read-back a =
       rest-here a 5,
     )
 
--- and is an account. The next month of every account has 32 bits in the code, and so it is asked here.
+-- and its next month has 32 bits: so both are asked here.
 known : (a : Account) → a .next < 2 ^ 32 → isAccount (accountRow a) ≡ true
 unfolding isAccount
 known a h =
     rw (row-long a, stage-here a, stage-known (a .stage), terms-known-here a, rest-here a 0, lt-ltb (a .next) (2 ^ 32) h)
 
-pub row-reads-back : (a : Account) → a .next < 2 ^ 32 → (isAccount (accountRow a) ≡ true) × (accountAt (accountRow a) ≡ a)
-row-reads-back a h = (known a h, read-back a)
+pub row-reads-back : (a : Account) → a .next < 2 ^ 32 → length (a .terms .nameplates) ≡ mostNameplates
+    → (isAccount (accountRow a) ≡ true) × (accountAt (accountRow a) ≡ a)
+row-reads-back a h eight = (known a h, read-back a eight)

@@ -23,7 +23,7 @@ use Rattle.kozempil.specs.declared.Counts.{Counts}
 
 -- Our rule: the layout of calls, answers and accounts has a version, which rises when a place, a code or a number is added or changed.
 abbrev pub layoutVersion : ℕ
-layoutVersion = 2
+layoutVersion = 3
 
 -- Stages as numbers.
 abbrev pub stageCode : Stage → ℕ
@@ -65,7 +65,8 @@ unfoldable pub isAccount : List ℕ → Bool
 isAccount w =
     eqb (length w) accountLength && leb (getD w stagePlace 0) 2 && knownTerms w termsPlace && ltb (getD w nextPlace 0) (2 ^ 32)
 
--- The account of a row. What is written of an account is read back as that account: theorem `row-reads-back`.
+-- The account of a row. What is written of an account is read back as that account where its terms have eight places for nameplates and its next
+-- month has 32 bits: theorem `row-reads-back`.
 unfoldable pub accountAt : List ℕ → Account
 accountAt w =
     record {

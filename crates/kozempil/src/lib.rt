@@ -17,7 +17,7 @@ use account::Account;
 use account::Stage;
 
 // Rises when a place, a code or a number of calls, answers or accounts is added or changed.
-const LAYOUT: u32 = 2;
+const LAYOUT: u32 = 3;
 
 // The row of an account: stage, terms, price list, next month, carried by period, standing money.
 const STAGE_PLACE: usize = 0;

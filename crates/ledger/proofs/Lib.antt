@@ -1,4 +1,4 @@
 mod Decoding
 mod Progress
 mod Records
-mod Roundtrip
+pub mod Roundtrip

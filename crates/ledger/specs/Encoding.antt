@@ -1,10 +1,12 @@
 -- How a list of calls is lent to `run`: a record for each call, and the readings of its billings one after the other in two registers; and
 -- how its answers are written: a row for each. w is the record of one call.
+use mathlib.Core.Path.{_≡_}
 use mathlib.Core.Bool.{true, false, cond, _&&_}
 use mathlib.Core.List.{List, [], _∷_, _++_}
 use Prim.Native.Nat.{ℕ, zero, suc, _-_, _/_, _^_, _<_}
 use lib.Dec.{eqb}
 use lib.ListN.{length, getD, take, drop, replicate}
+use Rattle.tariff.specs.Tariff.{mostNameplates}
 use Rattle.billing.specs.Billing.{noBill}
 use Rattle.account.specs.declared.Account.{Account}
 use Rattle.account.specs.Account.{noAmounts}
@@ -73,16 +75,16 @@ unfoldable pub joined : (Call → List ℕ) → List Call → List ℕ
 joined f [] = []
 joined f (c ∷ cs) = f c ++ joined f cs
 
--- Months and critical days of calls are numbers of 32 bits.
-abbrev pub Fits32 : Call → Type 0
-Fits32 (opening t l m) = m < 2 ^ 32
-Fits32 (repricing l) = Unit {0}
-Fits32 (billing m delivered received x) = (m < 2 ^ 32) × (x < 2 ^ 32)
-Fits32 closing = Unit {0}
+-- A call fits a record: its terms have eight places for nameplates, and its month and critical days are numbers of 32 bits.
+abbrev pub Fits : Call → Type 0
+Fits (opening t l m) = (length (t .nameplates) ≡ mostNameplates) × (m < 2 ^ 32)
+Fits (repricing l) = Unit {0}
+Fits (billing m delivered received x) = (m < 2 ^ 32) × (x < 2 ^ 32)
+Fits closing = Unit {0}
 
 unfoldable pub AllFit : List Call → Type 0
 AllFit [] = Unit {0}
-AllFit (c ∷ cs) = Fits32 c × AllFit cs
+AllFit (c ∷ cs) = Fits c × AllFit cs
 
 -- The rows of a list of answers.
 unfoldable pub rowsOf : List Answer → List ℕ

@@ -1,4 +1,4 @@
--- What a line gives is told by its first 51 bytes, and each text fits where there is room.
+-- What a line gives is told by the bytes that are kept of it, and each text fits where there is room.
 use mathlib.Core.Path.{_≡_, refl, sym, _∙_, ap}
 use mathlib.Core.Bool.{Bool, true, false, cond, not, _||_}
 use mathlib.Core.List.{List, [], _∷_}
@@ -8,16 +8,17 @@ use borrow.Author.Tests.{leb-true, leb-false}
 use lib.Dec.{eqb, leb, ltb}
 use lib.ListN.{length, getD, take}
 use lib.Seq.{length-take-le, take-all}
-use Rattle.grammar.specs.Grammar.{openingLine, billLine, criticalLine, runLine}
+use Rattle.grammar.specs.Grammar.{openingLine, billLine, criticalLine, runLine, longestLine}
 use Rattle.grammar.proofs.Laws.{opening-short, bill-short, critical-short, run-short}
 use Rattle.printing.specs.Printing.{lineText}
 use Rattle.printing.proofs.Laws.{bill-fits, open-fits, line-fits}
 use Rattle.lines.specs.Statement.{State, Outcome, counted, fault, opened, openingRead, billRead, criticalRead, runRead, monthEnd, runOrBillRead}
 use Rattle.lines.specs.Statement.{expectedRead, lineRead, atEnd, billExpected, criticalExpected, runExpected, outcome, nextNumber, isUnreadable}
 use Rattle.lines.specs.Statement.{hasStopped}
+use Rattle.lines.specs.Feeding.{keptBytes}
 
--- All lines of more than 50 bytes are read alike: they are unreadable.
-long-alike : (l m : List ℕ) (s : State) → 50 < length l → 50 < length m → lineRead l s ≡ lineRead m s
+-- All lines longer than the longest are read alike: they are unreadable.
+long-alike : (l m : List ℕ) (s : State) → longestLine < length l → longestLine < length m → lineRead l s ≡ lineRead m s
 unfolding lineRead expectedRead runOrBillRead
 long-alike l m s h k =
     simp (
@@ -31,15 +32,15 @@ long-alike l m s h k =
       run-short m k,
     )
 
--- So of a line 51 bytes are enough.
-pub line-cut : (l : List ℕ) (s : State) → lineRead (take 51 l) s ≡ lineRead l s
-line-cut l s = by (leb (length l) 51) refl
+-- So of a line the bytes kept are enough.
+pub line-cut : (l : List ℕ) (s : State) → lineRead (take keptBytes l) s ≡ lineRead l s
+line-cut l s = by (leb (length l) keptBytes) refl
   where
-    by : (t : Bool) → leb (length l) 51 ≡ t → lineRead (take 51 l) s ≡ lineRead l s
-    by true e = rw (take-all 51 l (leb-true _ _ e))
+    by : (t : Bool) → leb (length l) keptBytes ≡ t → lineRead (take keptBytes l) s ≡ lineRead l s
+    by true e = rw (take-all keptBytes l (leb-true _ _ e))
     by false e =
-        let h : 51 < length l = leb-false _ _ e in
-        long-alike (take 51 l) l s (omega (arith, length-take-le 51 l (omega arith))) (omega arith)
+        let h : keptBytes < length l = leb-false _ _ e in
+        long-alike (take keptBytes l) l s (omega (arith, length-take-le keptBytes l (omega arith))) (omega arith)
 
 -- A text that a step prints fits.
 record Fits (x : Outcome) : Type 0 where

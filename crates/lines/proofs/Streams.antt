@@ -8,7 +8,7 @@ use borrow.Author.Tests.{ne-eqb, le-leb}
 use lib.Dec.{eqb}
 use lib.ListN.{length, take}
 use Rattle.lines.specs.Statement.{State, lineRead, atEnd, textFrom, linesFrom, statementOf}
-use Rattle.lines.specs.Feeding.{SoFar, nothingRead, afterByte, byteText, after, printed, ending, takenOf, joined, piecesText, Streams}
+use Rattle.lines.specs.Feeding.{keptBytes, SoFar, nothingRead, afterByte, byteText, after, printed, ending, takenOf, joined, piecesText, Streams}
 use Rattle.lines.proofs.Lengths.{line-cut}
 use Rattle.lines.proofs.Quiet.{quiet}
 
@@ -34,7 +34,7 @@ module _ (x : SoFar) (b : ℕ) where
   unfolding byteText
   newline-text e = rw e
 
-  pub other-state : eqb b 10 ≡ false → afterByte x b ≡ record { line = take 51 (x .line ++ b ∷ []); state = x .state }
+  pub other-state : eqb b 10 ≡ false → afterByte x b ≡ record { line = take keptBytes (x .line ++ b ∷ []); state = x .state }
   unfolding afterByte
   other-state e = rw e
 
@@ -50,13 +50,13 @@ kept-again (suc n) (b ∷ l) more = ap (λ (r : List ℕ). b ∷ r) (kept-again 
 
 -- A line that isn't complete yet.
 abbrev unfinished : List ℕ → State → SoFar
-unfinished l s = record { line = take 51 l; state = s }
+unfinished l s = record { line = take keptBytes l; state = s }
 
 last-line : (l : List ℕ) (s : State) → ending (unfinished l s) ≡ textFrom s (linesFrom l [])
 unfolding ending textFrom linesFrom
 last-line [] s = refl
 last-line (b ∷ l) s =
-    rw (ne-eqb (length (take 51 (b ∷ l))) 0 (λ e. omega arith), ne-eqb (length (b ∷ l)) 0 (λ e. omega arith), line-cut (b ∷ l) s)
+    rw (ne-eqb (length (take keptBytes (b ∷ l))) 0 (λ e. omega arith), ne-eqb (length (b ∷ l)) 0 (λ e. omega arith), line-cut (b ∷ l) s)
 
 from-line : (bytes l : List ℕ) (s : State)
     → printed (unfinished l s) bytes ++ ending (after (unfinished l s) bytes) ≡ textFrom s (linesFrom l bytes)
@@ -72,7 +72,7 @@ from-line (b ∷ bytes) l s = by (eqb b 10) refl (from-line bytes [] (lineRead l
     by true e new same =
         rw (e, newline-text (unfinished l s) b e, newline-state (unfinished l s) b e, line-cut l s, append-assoc)
         (ap (λ (t : List ℕ). lineRead l s .text ++ t) new)
-    by false e new same = rw (e, other-text (unfinished l s) b e, other-state (unfinished l s) b e, kept-again 51 l (b ∷ [])) same
+    by false e new same = rw (e, other-text (unfinished l s) b e, other-state (unfinished l s) b e, kept-again keptBytes l (b ∷ [])) same
 
 -- Pieces are read one after the other.
 pieces-from : (x : SoFar) (ps : List (List ℕ)) → piecesText x ps ≡ printed x (joined ps) ++ ending (after x (joined ps))

@@ -6,12 +6,13 @@ use Prim.Native.Nat.{ℕ, zero, suc, _+_, _-_}
 use lib.Dec.{eqb, leb}
 use lib.ListN.{length, take}
 use lib.Seq.{sets}
+use Rattle.grammar.specs.Grammar.{longestLine}
 use Rattle.printing.specs.Writing.{textRoom}
 use Rattle.lines.specs.Statement.{State, hasStopped, start, lineRead, atEnd, statementOf}
 
--- No readable line has more than 50 bytes, so of a line that isn't complete yet at most 51 are kept: they tell that it is too long.
+-- Of a line that isn't complete yet one byte more is kept than the longest readable line has: it tells that the line is too long.
 abbrev pub keptBytes : ℕ
-keptBytes = 51
+keptBytes = longestLine + 1
 
 -- What has been read, and the line that isn't complete yet.
 pub record SoFar : Type 0 where

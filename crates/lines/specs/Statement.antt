@@ -12,7 +12,7 @@ use Rattle.account.specs.declared.BillingReply.{BillingReply}
 use Rattle.account.specs.Account.{freshAccount, openingReply, billingReply}
 use Rattle.grammar.specs.Grammar.{openingLine, billLine, criticalLine, runLine}
 use Rattle.printing.specs.Printing.{billText, openText, lineText}
-use Rattle.lines.specs.Opening.{placeOfLine, openingLength, openingMonth, openingTerms, openingPrices}
+use Rattle.lines.specs.Opening.{placeOfLine, openingLength, keptOfLine, openingMonth, openingTerms, openingPrices}
 
 -- Of a month that is being read: its number, its critical days and its readings so far.
 pub record Month : Type 0 where
@@ -85,9 +85,11 @@ counted s = state (nextNumber (s .lines)) (s .expected) (s .values) (s .account)
 unfoldable pub fault : State → Outcome
 fault s = outcome (lineText (s .lines)) (state (s .lines) stopped (s .values) (s .account) (s .entered))
 
--- A line of the opening: its numbers are put where they belong, and the next line is expected, after line 14 a bill line.
+-- A line of the opening: what is kept of it is put where it belongs, and the next line is expected, after line 14 a bill line.
 abbrev pub withLine : List ℕ → State → State
-withLine v s = state (s .lines) (s .expected + 1) (sets (s .values) (placeOfLine (s .expected)) v) (s .account) (s .entered)
+withLine v s =
+    state (s .lines) (s .expected + 1) (sets (s .values) (placeOfLine (s .expected)) (keptOfLine (s .expected) v)) (s .account)
+    (s .entered)
 
 -- "It prints the opening's number once line 14 is read"
 abbrev pub accountReply : Account → List ℕ → Reply

@@ -5,14 +5,13 @@ use mathlib.Core.List.{List, [], _∷_, map}
 use Prim.Native.Nat.{ℕ, zero, suc, _+_, _-_, _≤_, _<_}
 use native.Mathlib.Numerals.{add-one}
 use native.Mathlib.Omega.{arith}
-use borrow.Author.Tests.{ne-eqb, eqb-true}
-use lib.Dec.{eqb, eqb·suc-suc}
+use borrow.Author.Tests.{ne-eqb, eqb-true, leb-true, leb-false, le-leb}
+use lib.Dec.{eqb, leb, leb·suc-suc}
 use lib.ListN.{length, take, drop, length-map}
 use lib.Seq.{take-all}
-use Rattle.calendar.proofs.Booleans.{and-both}
 use Rattle.text.specs.Text.{placeOf}
 use Rattle.numerals.specs.declared.Numbers.{Numbers}
-use Rattle.numerals.specs.Numerals.{valueOf, isNumber, numberIn, onFirst, partsOf, allNumbers, numbersIn}
+use Rattle.numerals.specs.Numerals.{valueOf, isNumber, numberIn, onFirst, partsOf, allNumbers, numbersIn, numbersUpTo}
 use Rattle.numerals.specs.Reading.{numbersAs}
 use Rattle.numerals.specs.Joining.{ledBy}
 use Rattle.text.proofs.Lists.{rest-is}
@@ -54,31 +53,33 @@ parts-more (b ∷ l) h = by (eqb b 44) (parts-more l) h
     by true next h = refl
     by false next h = rw (next (omega arith))
 
--- How many numbers there are.
-pub numbers-count : (n : ℕ) (l : List ℕ) → length (numbersIn n l) ≤ n
-unfolding numbersIn
-numbers-count n l = by (eqb (length (partsOf l)) n && allNumbers (partsOf l)) refl
+-- What holds of none and of one number or more, up to so many.
+pub up-to-either : (P : List ℕ → Type 0) (n : ℕ) (l : List ℕ) → P []
+    → (length (partsOf l) ≤ n → allNumbers (partsOf l) ≡ true → P (map valueOf (partsOf l)))
+    → P (numbersUpTo n l)
+unfolding numbersUpTo
+up-to-either P n l none some = by (leb (length (partsOf l)) n) (allNumbers (partsOf l)) refl refl
   where
-    by : (t : Bool) → (eqb (length (partsOf l)) n && allNumbers (partsOf l)) ≡ t → length (cond t (map valueOf (partsOf l)) []) ≤ n
-    by true e =
-        let same = eqb-true (length (partsOf l)) n (and-both (eqb (length (partsOf l)) n) (allNumbers (partsOf l)) e .0) in
-        omega (arith, length-map (partsOf l) valueOf)
-    by false e = omega arith
+    by : (a b : Bool) → leb (length (partsOf l)) n ≡ a → allNumbers (partsOf l) ≡ b → P (cond (a && b) (map valueOf (partsOf l)) [])
+    by true true e f = some (leb-true _ _ e) f
+    by true false e f = none
+    by false b e f = none
 
-pub counted : (n : ℕ) (l : List ℕ) (a : Numbers) → a ≡ numbersAs (numbersIn n l) → a .count ≤ n
-counted n l a e = rw e (numbers-count n l)
+-- How many numbers there are.
+pub up-to-count : (n : ℕ) (l : List ℕ) → length (numbersUpTo n l) ≤ n
+up-to-count n l =
+    up-to-either (λ xs. length xs ≤ n) n l (omega arith) (λ few numbers. omega (arith, length-map (partsOf l) valueOf))
 
-pub numbers-none : (l : List ℕ) → numbersIn 0 l ≡ []
-unfolding numbersIn
-numbers-none l = rw (ne-eqb (length (partsOf l)) 0 (λ e. omega (arith, parts-some l)))
+pub counted : (n : ℕ) (l : List ℕ) (a : Numbers) → a ≡ numbersAs (numbersUpTo n l) → a .count ≤ n
+counted n l a e = rw e (up-to-count n l)
 
-pub numbers-last : (n k : ℕ) (l : List ℕ) → k ≡ placeOf 44 l → k ≡ length l → n ≡ 1 → numberIn (take k l) ≡ numbersIn n l
-unfolding numbersIn allNumbers numberIn
-numbers-last n k l p e f = rw (f, take-all k l (omega arith), parts-last l (sym p ∙ e), and-true (isNumber l))
+pub up-to-none : (l : List ℕ) → numbersUpTo 0 l ≡ []
+up-to-none l = up-to-either (λ xs. xs ≡ []) 0 l refl (λ few numbers. absurd (omega (arith, parts-some l)))
 
-pub numbers-few : (n k : ℕ) (l : List ℕ) → k ≡ placeOf 44 l → k ≡ length l → (n ≡ 1 → ⊥) → numbersIn n l ≡ []
-unfolding numbersIn
-numbers-few n k l p e h = rw (parts-last l (sym p ∙ e), ne-eqb 1 n (λ f. h (sym f)))
+pub up-to-last : (n k : ℕ) (l : List ℕ) → (n ≡ 0 → ⊥) → k ≡ placeOf 44 l → k ≡ length l → numberIn (take k l) ≡ numbersUpTo n l
+unfolding numbersUpTo allNumbers numberIn
+up-to-last n k l z p e =
+    rw (take-all k l (omega arith), parts-last l (sym p ∙ e), le-leb 1 n (omega arith), and-true (isNumber l))
 
 -- A number before others.
 led : (same first rest : Bool) (v : ℕ) (vs : List ℕ) → 1 ≤ length vs
@@ -92,16 +93,38 @@ led true false rest v vs h = refl
 led false true rest v vs h = refl
 led false false rest v vs h = refl
 
-pub numbers-more : (n k : ℕ) (l : List ℕ) (a b : Numbers) → (n ≡ 0 → ⊥) → k ≡ placeOf 44 l → k < length l
+pub up-to-more : (n k : ℕ) (l : List ℕ) (a b : Numbers) → (n ≡ 0 → ⊥) → k ≡ placeOf 44 l → k < length l
     → a ≡ numbersAs (numberIn (take k l))
-    → b ≡ numbersAs (numbersIn (n - 1) (take (length l - (k + 1)) (drop (k + 1) l)))
-    → ledBy a b ≡ numbersAs (numbersIn n l)
-unfolding numbersIn numberIn allNumbers
-numbers-more zero k l a b z e h x y = absurd (z refl)
-numbers-more (suc m) k l a b z e h x y =
+    → b ≡ numbersAs (numbersUpTo (n - 1) (take (length l - (k + 1)) (drop (k + 1) l)))
+    → ledBy a b ≡ numbersAs (numbersUpTo n l)
+unfolding numbersUpTo numberIn allNumbers
+up-to-more zero k l a b z e h x y = absurd (z refl)
+up-to-more (suc m) k l a b z e h x y =
     let less : suc m - 1 ≡ m = omega arith in
     let p = take k l in
     let ps = partsOf (drop (suc k) l) in
     let some : 1 ≤ length (map valueOf ps) = omega (arith, length-map ps valueOf, parts-some (drop (suc k) l)) in
-    rw (x, y, less, rest-is (k + 1) l, parts-more l (omega arith), ← e, add-one k, eqb·suc-suc (length ps) m)
-    (sym (led (eqb (length ps) m) (isNumber p) (allNumbers ps) (valueOf p) (map valueOf ps) some))
+    rw (x, y, less, rest-is (k + 1) l, parts-more l (omega arith), ← e, add-one k, leb·suc-suc (length ps) m)
+    (sym (led (leb (length ps) m) (isNumber p) (allNumbers ps) (valueOf p) (map valueOf ps) some))
+
+-- So many numbers are those of up to so many, where there are so many.
+pub numbers-are : (n : ℕ) (l : List ℕ) → numbersIn n l ≡ cond (eqb (length (numbersUpTo n l)) n) (numbersUpTo n l) []
+unfolding numbersIn numbersUpTo
+numbers-are n l = by (eqb (length ps) n) (leb (length ps) n) (allNumbers ps) refl refl
+  where
+    ps : List (List ℕ)
+    ps = partsOf l
+
+    none : (t : Bool) → _≡_ {A = List ℕ} [] (cond t [] [])
+    none true = refl
+    none false = refl
+
+    by : (same few numbers : Bool) → eqb (length ps) n ≡ same → leb (length ps) n ≡ few
+        → cond (same && numbers) (map valueOf ps) []
+        ≡ cond (eqb (length (cond (few && numbers) (map valueOf ps) [])) n) (cond (few && numbers) (map valueOf ps) []) []
+    by true true true e f = rw (length-map ps valueOf, e)
+    by true true false e f = none (eqb 0 n)
+    by true false numbers e f = absurd (omega (arith, eqb-true (length ps) n e, leb-false (length ps) n f))
+    by false true true e f = rw (length-map ps valueOf, e)
+    by false true false e f = none (eqb 0 n)
+    by false false numbers e f = none (eqb 0 n)

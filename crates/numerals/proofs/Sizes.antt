@@ -1,18 +1,18 @@
 -- What is readable is short and gives as many numbers as are asked for: numbers and months.
-use mathlib.Core.Path.{_≡_, refl, _∙_}
+use mathlib.Core.Path.{_≡_, refl}
 use mathlib.Core.Bool.{Bool, true, false, cond, _&&_}
-use mathlib.Core.List.{List, [], _∷_, map}
+use mathlib.Core.List.{List, [], _∷_}
 use mathlib.Core.Logic.{_⊎_, inl, inr}
 use Prim.Native.Nat.{ℕ, _+_, _-_, _*_, _^_, _≤_, _<_}
 use native.Mathlib.Omega.{arith}
 use borrow.Author.Tests.{eqb-true, leb-true}
 use lib.Dec.{eqb, leb, ltb}
-use lib.ListN.{length, length-map}
+use lib.ListN.{length}
 use Rattle.calendar.proofs.Booleans.{and-both}
 use Rattle.numerals.specs.Numerals.{allDigits, valueOf, isNumber, numberIn, isMonth, monthIn}
-use Rattle.numerals.specs.Numerals.{onFirst, partsOf, allNumbers, numbersIn}
+use Rattle.numerals.specs.Numerals.{onFirst, partsOf, allNumbers, numbersIn, numbersUpTo}
 use Rattle.numerals.proofs.Months.{month-length}
-use Rattle.numerals.proofs.Parts.{parts-some}
+use Rattle.numerals.proofs.Parts.{parts-some, up-to-either, up-to-count, numbers-are}
 
 abbrev pub Reader : Type 0
 Reader = List ℕ → List ℕ
@@ -75,22 +75,24 @@ all-spread (p ∷ ps) e =
     let (here, next) = and-both (isNumber p) (allNumbers ps) e in
     omega (arith, number-digits p here, all-spread ps next)
 
+pub up-to-short : (n : ℕ) → Short (11 * n - 1) (numbersUpTo n)
+up-to-short n l h =
+    up-to-either (λ xs. xs ≡ []) n l refl (λ few numbers. absurd (omega (arith, parts-spread l, all-spread (partsOf l) numbers)))
+
+pub up-to-few : (n : ℕ) → Few n (numbersUpTo n)
+up-to-few = up-to-count
+
 -- What holds of none and of as many numbers as are asked for.
 numbers-either : (P : List ℕ → Type 0) (n : ℕ) (l : List ℕ) → P []
-    → (length (partsOf l) ≡ n → allNumbers (partsOf l) ≡ true → P (map valueOf (partsOf l)))
-    → P (numbersIn n l)
-unfolding numbersIn
-numbers-either P n l none some = by (eqb (length (partsOf l)) n) (allNumbers (partsOf l)) refl refl
+    → (length (numbersUpTo n l) ≡ n → P (numbersUpTo n l)) → P (numbersIn n l)
+numbers-either P n l none some = rw (numbers-are n l) (by (eqb (length (numbersUpTo n l)) n) refl)
   where
-    by : (a b : Bool) → eqb (length (partsOf l)) n ≡ a → allNumbers (partsOf l) ≡ b → P (cond (a && b) (map valueOf (partsOf l)) [])
-    by true true e f = some (eqb-true _ _ e) f
-    by true false e f = none
-    by false b e f = none
+    by : (t : Bool) → eqb (length (numbersUpTo n l)) n ≡ t → P (cond t (numbersUpTo n l) [])
+    by true e = some (eqb-true _ _ e)
+    by false e = none
 
 pub numbers-short : (n : ℕ) → Short (11 * n - 1) (numbersIn n)
-numbers-short n l h =
-    numbers-either (λ xs. xs ≡ []) n l refl (λ e f. absurd (omega (arith, parts-spread l, all-spread (partsOf l) f)))
+numbers-short n l h = numbers-either (λ xs. xs ≡ []) n l refl (λ all. up-to-short n l h)
 
 pub numbers-all : (n : ℕ) (l : List ℕ) → (length (numbersIn n l) ≡ 0) ⊎ (length (numbersIn n l) ≡ n)
-numbers-all n l =
-    numbers-either (λ xs. (length xs ≡ 0) ⊎ (length xs ≡ n)) n l (inl refl) (λ e f. inr (length-map (partsOf l) valueOf ∙ e))
+numbers-all n l = numbers-either (λ xs. (length xs ≡ 0) ⊎ (length xs ≡ n)) n l (inl refl) (λ all. inr all)

@@ -15,4 +15,14 @@ monthFrom y k = cond (leb 2000 y && leb y 9999 && leb 1 k && leb k 12) (monthNum
 unfoldable pub ledBy : Numbers → Numbers → Numbers
 ledBy a b =
     cond (eqb (a .count) 0 || eqb (b .count) 0) (numbersAs [])
-    (record { count = b .count + 1; first = a .first; second = b .first; third = b .second; fourth = b .third })
+    (record {
+      count = b .count + 1;
+      first = a .first;
+      second = b .first;
+      third = b .second;
+      fourth = b .third;
+      fifth = b .fourth;
+      sixth = b .fifth;
+      seventh = b .sixth;
+      eighth = b .seventh;
+    })

@@ -62,3 +62,7 @@ allNumbers (p ∷ ps) = isNumber p && allNumbers ps
 -- So many numbers with commas between them.
 unfoldable pub numbersIn : ℕ → List ℕ → List ℕ
 numbersIn n l = cond (eqb (length (partsOf l)) n && allNumbers (partsOf l)) (map valueOf (partsOf l)) []
+
+-- One number or more, up to so many, with commas between them: a text has at least one part.
+unfoldable pub numbersUpTo : ℕ → List ℕ → List ℕ
+numbersUpTo n l = cond (leb (length (partsOf l)) n && allNumbers (partsOf l)) (map valueOf (partsOf l)) []

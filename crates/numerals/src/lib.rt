@@ -2,7 +2,7 @@
 ghost use mathlib.Core.Path.{_≡_};
 ghost use mathlib.Core.List.{[], _∷_};
 ghost use Prim.Native.Nat.{_+_, _<_, _^_};
-ghost use Rattle.numerals.specs.Numerals.{numberIn, monthIn, numbersIn};
+ghost use Rattle.numerals.specs.Numerals.{numberIn, monthIn, numbersIn, numbersUpTo};
 ghost use Rattle.numerals.specs.Reading.{numbersAs};
 ghost use Rattle.numerals.specs.Joining.{monthFrom, ledBy};
 
@@ -15,13 +15,17 @@ const MOST_DIGITS: usize = 10;
 // The bytes of a month.
 const MONTH_LENGTH: usize = 7;
 
-// How many numbers a text has, and the first four of them, 0 where there are fewer. A text that can't be read has none.
+// How many numbers a text has, and the first eight of them, 0 where there are fewer. A text that can't be read has none.
 pub struct Numbers {
     pub count: usize,
     pub first: u32,
     pub second: u32,
     pub third: u32,
     pub fourth: u32,
+    pub fifth: u32,
+    pub sixth: u32,
+    pub seventh: u32,
+    pub eighth: u32,
 }
 
 // What a text gives that can't be read.
@@ -31,6 +35,10 @@ pub const NO_NUMBER: Numbers = Numbers {
     second: 0,
     third: 0,
     fourth: 0,
+    fifth: 0,
+    sixth: 0,
+    seventh: 0,
+    eighth: 0,
 };
 
 fn one_number(number: u32) -> Numbers
@@ -42,6 +50,10 @@ fn one_number(number: u32) -> Numbers
         second: 0,
         third: 0,
         fourth: 0,
+        fifth: 0,
+        sixth: 0,
+        seventh: 0,
+        eighth: 0,
     }
 }
 
@@ -132,25 +144,37 @@ fn led_by(first: Numbers, rest: Numbers) -> Numbers
         second: rest.first,
         third: rest.second,
         fourth: rest.third,
+        fifth: rest.fourth,
+        sixth: rest.fifth,
+        seventh: rest.sixth,
+        eighth: rest.seventh,
     }
+}
+
+// One number or more, up to so many, with commas between them.
+pub fn numbers_up_to(text: &[u8], most: usize) -> Numbers
+    ensures { λ r. ⌜ r ≡ numbersAs (numbersUpTo most (now (text .entry))) ⌝ }
+{
+    if most == 0 {
+        return NO_NUMBER;
+    }
+    let comma = text::place_of(44, text);
+    let first = number_in(&text[..comma]);
+    if comma == text.len() {
+        return first;
+    }
+    let next = comma + 1;
+    let rest = numbers_up_to(&text[next..], most - 1);
+    led_by(first, rest)
 }
 
 // So many numbers with commas between them.
 pub fn numbers_in(text: &[u8], count: usize) -> Numbers
     ensures { λ r. ⌜ r ≡ numbersAs (numbersIn count (now (text .entry))) ⌝ }
 {
-    if count == 0 {
+    let numbers = numbers_up_to(text, count);
+    if numbers.count != count {
         return NO_NUMBER;
     }
-    let comma = text::place_of(44, text);
-    let first = number_in(&text[..comma]);
-    if comma == text.len() {
-        if count == 1 {
-            return first;
-        }
-        return NO_NUMBER;
-    }
-    let next = comma + 1;
-    let rest = numbers_in(&text[next..], count - 1);
-    led_by(first, rest)
+    numbers
 }

@@ -3,6 +3,7 @@ use mathlib.Core.Path.{_≡_}
 use mathlib.Core.Bool.{cond}
 use mathlib.Core.List.{List, [], _∷_}
 use Prim.Native.Nat.{ℕ, _+_}
+use lib.Dec.{eqb}
 use lib.ListN.{getD, take}
 use lib.Seq.{sets}
 use Rattle.text.specs.Text.{placeOf}
@@ -11,7 +12,7 @@ use Rattle.grammar.specs.Grammar.{runLine}
 use Rattle.printing.specs.Writing.{Wrote}
 use Rattle.progress.specs.declared.Progress.{Progress}
 use Rattle.progress.specs.declared.Run.{Run}
-use Rattle.lines.specs.Opening.{placeOfLine, widthOfLine}
+use Rattle.lines.specs.Opening.{placeOfLine, widthOfLine, nameplateLine}
 use Rattle.lines.specs.Statement.{State, state, monthOf, Outcome}
 use Rattle.lines.specs.Feeding.{Registers, withReadings}
 use Rattle.progress.specs.Progressing.{stateOf, lineAt, isRun}
@@ -34,10 +35,15 @@ StandsAs f before later = (d e : List ℕ) → stateOf later d e ≡ f (stateOf 
 abbrev pub EndsAs : (State → Outcome) → List ℕ → ℕ → Progress → Progress → List ℕ → ℕ → Type 0
 EndsAs f out i before later outLater j = (d e : List ℕ) → Ends out i (f (stateOf before d e)) (stateOf later d e) outLater j
 
--- The opening's numbers with those of the line that is expected.
+-- The eight numbers that a line's numbers have room for.
+abbrev pub eightOf : Numbers → List ℕ
+eightOf v = v .first ∷ v .second ∷ v .third ∷ v .fourth ∷ v .fifth ∷ v .sixth ∷ v .seventh ∷ v .eighth ∷ []
+
+-- The opening's numbers with what is kept of the line that is expected.
 unfoldable pub valuesWith : List ℕ → ℕ → Numbers → List ℕ
 valuesWith xs expected v =
-    sets xs (placeOfLine expected) (take (widthOfLine expected) (v .first ∷ v .second ∷ v .third ∷ v .fourth ∷ []))
+    sets xs (placeOfLine expected)
+    (cond (eqb (expected + 1) nameplateLine) (v .count ∷ eightOf v) (take (widthOfLine expected) (eightOf v)))
 
 -- The run line at the front of an input, where it fits after so many readings.
 unfoldable pub runAt : List ℕ → ℕ → Run

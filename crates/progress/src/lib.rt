@@ -7,7 +7,8 @@ ghost use lib.Seq.{sets};
 ghost use Rattle.grammar.specs.Grammar.{openingLine, billLine, criticalLine, runLine};
 ghost use Rattle.numerals.specs.Reading.{numbersAs};
 ghost use Rattle.printing.specs.Writing.{hasRoom};
-ghost use Rattle.lines.specs.Opening.{openingTerms, openingPrices};
+ghost use Rattle.tariff.specs.Tariff.{mostNameplates, eightAt};
+ghost use Rattle.lines.specs.Opening.{placeOfLine, openingTerms, openingPrices};
 ghost use Rattle.lines.specs.Statement.{start, nextNumber, counted, begun, fault, monthReply, accountReply, opened, openingRead, billRead, criticalRead, runRead, monthEnd, runOrBillRead, expectedRead, lineRead};
 ghost use Rattle.lines.specs.Feeding.{registersOf};
 ghost use Rattle.progress.specs.Progressing.{stateOf, StandsFor, SaysStopped, Reads, RunsRead, Finishes};
@@ -38,9 +39,12 @@ const RIDER: usize = OPENS + 1;
 
 const CLASS: usize = RIDER + 1;
 
-const NAMEPLATE: usize = CLASS + 1;
+// How many nameplates there are, and the first of the eight places for them.
+const NAMEPLATE_COUNT: usize = CLASS + 1;
 
-const LIMIT: usize = NAMEPLATE + 1;
+const NAMEPLATES: usize = NAMEPLATE_COUNT + 1;
+
+const LIMIT: usize = NAMEPLATES + tariff::MOST_NAMEPLATES;
 
 const ASSISTED: usize = LIMIT + 1;
 
@@ -74,7 +78,7 @@ const PLACES: [usize; 14] = [
     OPENS,
     RIDER,
     CLASS,
-    NAMEPLATE,
+    NAMEPLATE_COUNT,
     LIMIT,
     ASSISTED,
     CRITICAL_PRICE,
@@ -87,7 +91,9 @@ const PLACES: [usize; 14] = [
     MINIMUM,
 ];
 
-// What is expected where the line of four prices is.
+// What is expected where the line of nameplates is, and where that of four prices is.
+const NAMEPLATES_EXPECTED: u32 = 3;
+
 const PRICES_EXPECTED: u32 = 6;
 
 const NEWLINE: u8 = 10;
@@ -158,6 +164,24 @@ fn fault_at(progress: Progress, out: &mut [u8], at: usize) -> Ended
     }
 }
 
+// The opening's numbers with the nameplates.
+fn with_nameplates(values: [u32; OPENING_NUMBERS], numbers: Numbers) -> [u32; OPENING_NUMBERS]
+    requires { ⌜ numbers .count ≤ mostNameplates ⌝ }
+    ensures { λ r. ⌜ r ≡ valuesWith values 3 numbers ⌝ }
+{
+    let mut next = values;
+    next[NAMEPLATE_COUNT] = numbers.count as u32;
+    next[NAMEPLATES] = numbers.first;
+    next[NAMEPLATES + 1] = numbers.second;
+    next[NAMEPLATES + 2] = numbers.third;
+    next[NAMEPLATES + 3] = numbers.fourth;
+    next[NAMEPLATES + 4] = numbers.fifth;
+    next[NAMEPLATES + 5] = numbers.sixth;
+    next[NAMEPLATES + 6] = numbers.seventh;
+    next[NAMEPLATES + 7] = numbers.eighth;
+    next
+}
+
 // The opening's numbers with those of one line more.
 fn with_values(
     values: [u32; OPENING_NUMBERS],
@@ -165,8 +189,12 @@ fn with_values(
     numbers: Numbers,
 ) -> [u32; OPENING_NUMBERS]
     requires { ⌜ expected < 14 ⌝ }
+    requires { ⌜ numbers .count ≤ mostNameplates ⌝ }
     ensures { λ r. ⌜ r ≡ valuesWith values expected numbers ⌝ }
 {
+    if expected == NAMEPLATES_EXPECTED {
+        return with_nameplates(values, numbers);
+    }
     let mut next = values;
     if expected == PRICES_EXPECTED {
         next[CRITICAL_PRICE] = numbers.first;
@@ -178,6 +206,22 @@ fn with_values(
     let place = PLACES[expected as usize];
     next[place] = numbers.first;
     next
+}
+
+// The places for nameplates of an opening.
+fn nameplates_of(values: [u32; OPENING_NUMBERS]) -> [u64; tariff::MOST_NAMEPLATES]
+    ensures { λ r. ⌜ r ≡ eightAt values (placeOfLine 3) 1 ⌝ }
+{
+    [
+        values[NAMEPLATES] as u64,
+        values[NAMEPLATES + 1] as u64,
+        values[NAMEPLATES + 2] as u64,
+        values[NAMEPLATES + 3] as u64,
+        values[NAMEPLATES + 4] as u64,
+        values[NAMEPLATES + 5] as u64,
+        values[NAMEPLATES + 6] as u64,
+        values[NAMEPLATES + 7] as u64,
+    ]
 }
 
 // The terms of an opening.
@@ -197,7 +241,8 @@ fn terms_of(values: [u32; OPENING_NUMBERS]) -> Terms
     Terms {
         rider,
         class,
-        nameplate: values[NAMEPLATE] as u64,
+        count: values[NAMEPLATE_COUNT] as u64,
+        nameplates: nameplates_of(values),
         limit: values[LIMIT] as u64,
         assisted: values[ASSISTED] == 1,
     }

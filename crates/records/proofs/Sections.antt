@@ -2,9 +2,10 @@
 -- them changes its laws here, and nothing in the crates that use them.
 use mathlib.Core.Path.{_≡_, refl}
 use mathlib.Core.Bool.{Bool, true, false}
-use mathlib.Core.List.{List, _++_, append-assoc}
+use mathlib.Core.List.{List, [], _∷_, _++_, append-assoc}
 use Prim.Native.Nat.{ℕ, _+_}
 use native.Mathlib.Nat.{add-zero}
+use native.Mathlib.Omega.{arith}
 use lib.Dec.{eqb, leb}
 use lib.ListN.{length, getD}
 use lib.Seq.{getD-append-add}
@@ -14,6 +15,7 @@ use Rattle.tariff.specs.declared.Class.{Class}
 use Rattle.tariff.specs.declared.Class.the-variants.{Home, Business}
 use Rattle.tariff.specs.declared.Terms.{Terms}
 use Rattle.tariff.specs.declared.PriceList.{PriceList}
+use Rattle.tariff.specs.Tariff.{mostNameplates, eightAt}
 use Rattle.records.specs.Sections.{riderCode, riderAt, classCode, classAt, yesCode}
 use Rattle.records.specs.Sections.{termsLength, termsNumbers, termsAt, knownTerms, pricesLength, pricesNumbers, pricesAt}
 
@@ -41,6 +43,24 @@ yes-back : (b : Bool) → eqb (yesCode b) 1 ≡ b
 yes-back true = refl
 yes-back false = refl
 
+-- Eight places are read back.
+eight-back : (xs : List ℕ) → length xs ≡ mostNameplates → eightAt xs 0 0 ≡ xs
+eight-back [] e = absurd (omega arith)
+eight-back (a ∷ []) e = absurd (omega arith)
+eight-back (a ∷ b ∷ []) e = absurd (omega arith)
+eight-back (a ∷ b ∷ c ∷ []) e = absurd (omega arith)
+eight-back (a ∷ b ∷ c ∷ d ∷ []) e = absurd (omega arith)
+eight-back (a ∷ b ∷ c ∷ d ∷ f ∷ []) e = absurd (omega arith)
+eight-back (a ∷ b ∷ c ∷ d ∷ f ∷ g ∷ []) e = absurd (omega arith)
+eight-back (a ∷ b ∷ c ∷ d ∷ f ∷ g ∷ h ∷ []) e = absurd (omega arith)
+eight-back (a ∷ b ∷ c ∷ d ∷ f ∷ g ∷ h ∷ i ∷ []) e = refl
+eight-back (a ∷ b ∷ c ∷ d ∷ f ∷ g ∷ h ∷ i ∷ j ∷ xs) e = absurd (omega arith)
+
+-- Terms that are read have eight places.
+pub eight-read : (w : List ℕ) (place : ℕ) → length (termsAt w place .nameplates) ≡ mostNameplates
+unfolding termsAt
+eight-read w place = refl
+
 pub terms-long : (t : Terms) → length (termsNumbers t) ≡ termsLength
 unfolding termsNumbers
 terms-long t = refl
@@ -57,19 +77,28 @@ module _ (xs : List ℕ) (place : ℕ) (at : length xs ≡ place) where
   pub later : (ys : List ℕ) (n : ℕ) → getD (xs ++ ys) (place + n) 0 ≡ getD ys n 0
   later ys n = rw (← at) (getD-append-add xs ys n 0)
 
-  pub terms-back : (t : Terms) (ys : List ℕ) → termsAt (xs ++ termsNumbers t ++ ys) place ≡ t
+  pub terms-back : (t : Terms) (ys : List ℕ) → length (t .nameplates) ≡ mostNameplates → termsAt (xs ++ termsNumbers t ++ ys) place ≡ t
   unfolding termsNumbers termsAt
-  terms-back t ys =
+  terms-back t ys eight =
       let zs = termsNumbers t ++ ys in
       rw (
         append-assoc xs (termsNumbers t) ys,
-        first zs,
+        later zs 0,
         later zs 1,
         later zs 2,
         later zs 3,
         later zs 4,
+        later zs 5,
+        later zs 6,
+        later zs 7,
+        later zs 8,
+        later zs 9,
+        later zs 10,
+        later zs 11,
+        later zs 12,
         rider-back (t .rider),
         class-back (t .class),
+        eight-back (t .nameplates) eight,
         yes-back (t .assisted),
       )
 
@@ -79,9 +108,9 @@ module _ (xs : List ℕ) (place : ℕ) (at : length xs ≡ place) where
       let zs = termsNumbers t ++ ys in
       rw (
         append-assoc xs (termsNumbers t) ys,
-        first zs,
+        later zs 0,
         later zs 1,
-        later zs 4,
+        later zs 12,
         rider-known (t .rider),
         class-known (t .class),
         yes-known (t .assisted),

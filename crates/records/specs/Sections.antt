@@ -1,7 +1,8 @@
 -- How terms, price lists and amounts by period are written as numbers, and read from a list w of numbers from a place on. Past the end of
--- w each number is 0. What is written is read back: theorems `terms-back`, `terms-known` and `prices-back` of proofs/Sections.antt.
+-- w each number is 0. What is written is read back: theorems `terms-back`, `terms-known` and `prices-back` of proofs/Sections.antt; of terms this
+-- holds where they have eight places for nameplates, and those of the code always have.
 use mathlib.Core.Bool.{Bool, true, false, cond, _&&_}
-use mathlib.Core.List.{List, [], _∷_}
+use mathlib.Core.List.{List, [], _∷_, _++_}
 use Prim.Native.Nat.{ℕ, _+_}
 use lib.Dec.{eqb, leb}
 use lib.ListN.{getD}
@@ -13,6 +14,7 @@ use Rattle.tariff.specs.declared.Class.{Class}
 use Rattle.tariff.specs.declared.Class.the-variants.{Home, Business}
 use Rattle.tariff.specs.declared.Terms.{Terms}
 use Rattle.tariff.specs.declared.PriceList.{PriceList}
+use Rattle.tariff.specs.Tariff.{mostNameplates, eightAt}
 
 -- Riders, classes and yes or no as numbers.
 abbrev pub riderCode : Rider → ℕ
@@ -43,26 +45,54 @@ fourAt w place =
       discount = getD w (place + 3) 0;
     }
 
--- Terms: rider, class, nameplate, demand limit, assisted.
+-- Terms: rider, class, how many nameplates, the eight places of nameplates, demand limit, assisted. The places are counted from the first of
+-- these numbers.
+abbrev pub riderPlace : ℕ
+riderPlace = 0
+
+abbrev pub classPlace : ℕ
+classPlace = riderPlace + 1
+
+abbrev pub nameplateCountPlace : ℕ
+nameplateCountPlace = classPlace + 1
+
+abbrev pub nameplatesPlace : ℕ
+nameplatesPlace = nameplateCountPlace + 1
+
+abbrev pub limitPlace : ℕ
+limitPlace = nameplatesPlace + mostNameplates
+
+abbrev pub assistedPlace : ℕ
+assistedPlace = limitPlace + 1
+
 abbrev pub termsLength : ℕ
-termsLength = 5
+termsLength = assistedPlace + 1
 
 unfoldable pub termsNumbers : Terms → List ℕ
-termsNumbers t = riderCode (t .rider) ∷ classCode (t .class) ∷ t .nameplate ∷ t .limit ∷ yesCode (t .assisted) ∷ []
+termsNumbers t =
+    riderCode (t .rider)
+    ∷ classCode (t .class)
+    ∷ t .count
+    ∷ eightAt (t .nameplates) 0 0
+    ++ t .limit
+    ∷ yesCode (t .assisted)
+    ∷ []
 
 unfoldable pub termsAt : List ℕ → ℕ → Terms
 termsAt w place =
     record {
-      rider = riderAt (getD w place 0);
-      class = classAt (getD w (place + 1) 0);
-      nameplate = getD w (place + 2) 0;
-      limit = getD w (place + 3) 0;
-      assisted = eqb (getD w (place + 4) 0) 1;
+      rider = riderAt (getD w (place + riderPlace) 0);
+      class = classAt (getD w (place + classPlace) 0);
+      count = getD w (place + nameplateCountPlace) 0;
+      nameplates = eightAt w place nameplatesPlace;
+      limit = getD w (place + limitPlace) 0;
+      assisted = eqb (getD w (place + assistedPlace) 0) 1;
     }
 
--- Whether the codes of terms are among those above.
+-- Whether the codes of terms are among those above. A count, a nameplate and a demand limit may be any number; the table refuses the wrong ones.
 unfoldable pub knownTerms : List ℕ → ℕ → Bool
-knownTerms w place = leb (getD w place 0) 1 && leb (getD w (place + 1) 0) 1 && leb (getD w (place + 4) 0) 1
+knownTerms w place =
+    leb (getD w (place + riderPlace) 0) 1 && leb (getD w (place + classPlace) 0) 1 && leb (getD w (place + assistedPlace) 0) 1
 
 -- A price list: energy by period, demand, standby, bypass, credit, distribution, basic, minimum.
 abbrev pub pricesLength : ℕ

@@ -4,7 +4,8 @@ ghost use mathlib.Core.Path.{_≡_};
 ghost use Prim.Native.Nat.{_+_, min};
 ghost use lib.ListN.{getD, set};
 ghost use lib.Seq.{sets};
-ghost use Rattle.records.specs.Sections.{riderCode, riderAt, classCode, classAt, yesCode, fourAt};
+ghost use Rattle.tariff.specs.Tariff.{eightAt};
+ghost use Rattle.records.specs.Sections.{riderCode, riderAt, classCode, classAt, yesCode, fourAt, nameplatesPlace};
 ghost use Rattle.records.specs.Sections.{termsNumbers, termsAt, knownTerms, pricesNumbers, pricesAt};
 ghost use Rattle.records.specs.Records.{countAt, openingCodes, billingCodes, isCall};
 ghost use Rattle.records.specs.Rows.{rowOf};
@@ -12,13 +13,27 @@ use account::ClosingAmounts;
 use billing::Bill;
 use hours::ByPeriod;
 use tariff::Class;
+use tariff::MOST_NAMEPLATES;
 use tariff::PriceList;
 use tariff::Rider;
 use tariff::Terms;
 
-// The numbers of terms and of a price list.
-pub const TERMS_LENGTH: usize = 5;
+// Terms: rider, class, how many nameplates, eight places for them, demand limit, assisted. The places are counted from the first of these numbers.
+const RIDER_PLACE: usize = 0;
 
+const CLASS_PLACE: usize = RIDER_PLACE + 1;
+
+const NAMEPLATE_COUNT_PLACE: usize = CLASS_PLACE + 1;
+
+const NAMEPLATES_PLACE: usize = NAMEPLATE_COUNT_PLACE + 1;
+
+const LIMIT_PLACE: usize = NAMEPLATES_PLACE + MOST_NAMEPLATES;
+
+const ASSISTED_PLACE: usize = LIMIT_PLACE + 1;
+
+pub const TERMS_LENGTH: usize = ASSISTED_PLACE + 1;
+
+// The numbers of a price list.
 pub const PRICES_LENGTH: usize = 11;
 
 // The record of a call: its kind; of an opening terms, price list and first month, of a repricing the price list at the same place.
@@ -107,19 +122,36 @@ pub fn number_from(words: &[u64], start: usize, place: usize) -> u64
     0
 }
 
+// The places for nameplates of the terms that start at a place.
+fn nameplates_at(words: &[u64], place: usize) -> [u64; MOST_NAMEPLATES]
+    ensures { λ r. ⌜ r ≡ eightAt (now (words .entry)) place nameplatesPlace ⌝ }
+{
+    let first = number_from(words, place, NAMEPLATES_PLACE);
+    let second = number_from(words, place, NAMEPLATES_PLACE + 1);
+    let third = number_from(words, place, NAMEPLATES_PLACE + 2);
+    let fourth = number_from(words, place, NAMEPLATES_PLACE + 3);
+    let fifth = number_from(words, place, NAMEPLATES_PLACE + 4);
+    let sixth = number_from(words, place, NAMEPLATES_PLACE + 5);
+    let seventh = number_from(words, place, NAMEPLATES_PLACE + 6);
+    let eighth = number_from(words, place, NAMEPLATES_PLACE + 7);
+    [first, second, third, fourth, fifth, sixth, seventh, eighth]
+}
+
 // The terms that start at a place.
 pub fn terms_at(words: &[u64], place: usize) -> Terms
     ensures { λ r. ⌜ r ≡ termsAt (now (words .entry)) place ⌝ }
 {
-    let rider = rider_at(number_at(words, place));
-    let class = class_at(number_from(words, place, 1));
-    let nameplate = number_from(words, place, 2);
-    let limit = number_from(words, place, 3);
-    let assisted = number_from(words, place, 4) == 1;
+    let rider = rider_at(number_from(words, place, RIDER_PLACE));
+    let class = class_at(number_from(words, place, CLASS_PLACE));
+    let count = number_from(words, place, NAMEPLATE_COUNT_PLACE);
+    let nameplates = nameplates_at(words, place);
+    let limit = number_from(words, place, LIMIT_PLACE);
+    let assisted = number_from(words, place, ASSISTED_PLACE) == 1;
     Terms {
         rider,
         class,
-        nameplate,
+        count,
+        nameplates,
         limit,
         assisted,
     }
@@ -129,13 +161,13 @@ pub fn terms_at(words: &[u64], place: usize) -> Terms
 pub fn known_terms(words: &[u64], place: usize) -> bool
     ensures { λ r. ⌜ r ≡ knownTerms (now (words .entry)) place ⌝ }
 {
-    if 1 < number_at(words, place) {
+    if 1 < number_from(words, place, RIDER_PLACE) {
         return false;
     }
-    if 1 < number_from(words, place, 1) {
+    if 1 < number_from(words, place, CLASS_PLACE) {
         return false;
     }
-    number_from(words, place, 4) <= 1
+    number_from(words, place, ASSISTED_PLACE) <= 1
 }
 
 // Four amounts that start at a place.
@@ -351,10 +383,19 @@ pub fn write_terms(buffer: &mut [u64], place: usize, terms: Terms)
 {
     let rider = terms.rider;
     let class = terms.class;
+    let n = terms.nameplates;
     let numbers = [
         rider_code(rider),
         class_code(class),
-        terms.nameplate,
+        terms.count,
+        n[0],
+        n[1],
+        n[2],
+        n[3],
+        n[4],
+        n[5],
+        n[6],
+        n[7],
         terms.limit,
         yes_code(terms.assisted),
     ];

@@ -9,7 +9,7 @@ use lib.Dec.{eqb}
 use Rattle.calendar.proofs.Booleans.{or-neither}
 use Rattle.tariff.specs.declared.Terms.{Terms}
 use Rattle.tariff.specs.declared.PriceList.{PriceList}
-use Rattle.tariff.specs.Tariff.{pricesRefused, capacityRefused, bridgeRefused}
+use Rattle.tariff.specs.Tariff.{pricesRefused, nameplatesRefused, capacityRefused, bridgeRefused}
 use Rattle.refusals.specs.Table.{Row, firstOf, someApplies, contentsRows}
 
 -- No row has the number of an accepted call.
@@ -44,29 +44,31 @@ none-in-turn (suc first) later e = absurd (omega (arith, rw (ne-eqb (suc first) 
 -- Terms and a price list that no check refuses.
 pub record Contents (t : Terms) (l : PriceList) : Type 0 where
   pub prices : pricesRefused l ≡ false
+  pub nameplates : nameplatesRefused t ≡ false
   pub capacity : capacityRefused t ≡ false
   pub bridge : bridgeRefused t ≡ false
 
 module _ (t : Terms) (l : PriceList) where
   numbered : Numbered (contentsRows t l)
   unfolding contentsRows
-  numbered = (omega arith, (omega arith, (omega arith, tt)))
+  numbered = (omega arith, (omega arith, (omega arith, (omega arith, tt))))
 
   pub contents-hold : someApplies (contentsRows t l) ≡ false → Contents t l
   unfolding contentsRows
   contents-hold e =
-      let (prices, e5) = or-neither (pricesRefused l) _ e in
+      let (prices, e12) = or-neither (pricesRefused l) _ e in
+      let (nameplates, e5) = or-neither (nameplatesRefused t) _ e12 in
       let (capacity, e6) = or-neither (capacityRefused t) _ e5 in
       let (bridge, _) = or-neither (bridgeRefused t) _ e6 in
-      record { prices = prices; capacity = capacity; bridge = bridge }
+      record { prices = prices; nameplates = nameplates; capacity = capacity; bridge = bridge }
 
   pub contents-free : Contents t l → someApplies (contentsRows t l) ≡ false
   unfolding contentsRows
-  contents-free k = rw (k .prices, k .capacity, k .bridge)
+  contents-free k = rw (k .prices, k .nameplates, k .capacity, k .bridge)
 
   -- With another price list they hold where that isn't refused.
   pub contents-repriced : Contents t l → (new : PriceList) → pricesRefused new ≡ false → Contents t new
-  contents-repriced k new e = record { prices = e; capacity = k .capacity; bridge = k .bridge }
+  contents-repriced k new e = record { prices = e; nameplates = k .nameplates; capacity = k .capacity; bridge = k .bridge }
 
   -- One of the checks refuses where they answer a number.
   pub contents-refuse : not (eqb (firstOf (contentsRows t l)) 0) ≡ someApplies (contentsRows t l)

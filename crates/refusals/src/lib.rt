@@ -1,4 +1,4 @@
-// The table of refusals of document 01, with row 13 of 02 No. 4: the number that each call is given, or 0.
+// The table of refusals of document 01, with row 12 of 02 No. 3 and row 13 of 02 No. 4: the number that each call is given, or 0.
 ghost use mathlib.Core.Path.{_≡_};
 ghost use Rattle.refusals.specs.Table.{firstOf, contentsRows, openingRow, repricingRow, billingRow, closingRow};
 use tariff::PriceList;
@@ -19,7 +19,12 @@ pub fn contents_row(terms: Terms, prices: PriceList) -> u32
     if tariff::prices_refused(prices) {
         return 4;
     }
-    if tariff::capacity_refused(terms) {
+    let nameplates = tariff::nameplates_refused(terms);
+    let capacity = tariff::capacity_refused(terms);
+    if nameplates {
+        return 12;
+    }
+    if capacity {
         return 5;
     }
     if tariff::bridge_refused(terms) { 6 } else { 0 }

@@ -10,7 +10,7 @@ use lib.Seq.{length-sets}
 use Rattle.printing.specs.Writing.{fits, hasRoom, Wrote, Put}
 use Rattle.lines.specs.Statement.{State, lineRead, atEnd}
 use Rattle.progress.specs.Progressing.{Reads}
-use Rattle.lines.specs.Feeding.{SoFar, ending, stateAtEnd, Registers, withReadings}
+use Rattle.lines.specs.Feeding.{keptBytes, SoFar, ending, stateAtEnd, Registers, withReadings}
 use Rattle.session.specs.declared.Session.{Session}
 use Rattle.session.specs.Sessions.{Lent, soFarOf, lentAtEnd, Finishes}
 use Rattle.lines.proofs.Lengths.{text-fits, end-fits}
@@ -46,7 +46,7 @@ module _ (x : SoFar) (none : length (x .line) ≡ 0) where
   unfolding stateAtEnd
   whole-state = rw (eq-eqb _ _ none)
 
-pub finish-whole : (x : Session) (b : Lent) (out outLater : List ℕ) (least j : ℕ) → least ≡ min (x .held) 51 → least ≡ 0 → 2048 ≤ length out
+pub finish-whole : (x : Session) (b : Lent) (out outLater : List ℕ) (least j : ℕ) → least ≡ min (x .held) keptBytes → least ≡ 0 → 2048 ≤ length out
     → b .registers ≡ withReadings (soFarOf x b .state) (b .registers) → Put out 0 (atEnd (soFarOf x b .state)) outLater j
     → Finishes x b out b j outLater
 finish-whole x b out outLater least j e z h same p =
@@ -66,8 +66,8 @@ module _ (x : SoFar) (some : length (x .line) ≡ 0 → ⊥) where
   unfolding stateAtEnd
   line-state = rw (ne-eqb _ _ some)
 
-pub finish-line : (x : Session) (b : Lent) (out outRead outLater : List ℕ) (least i j : ℕ) (t : State) (q : Registers) → length (b .line) ≡ 51
-    → least ≡ min (x .held) 51 → (least ≡ 0 → ⊥) → 2048 ≤ length out
+pub finish-line : (x : Session) (b : Lent) (out outRead outLater : List ℕ) (least i j : ℕ) (t : State) (q : Registers) → length (b .line) ≡ keptBytes
+    → least ≡ min (x .held) keptBytes → (least ≡ 0 → ⊥) → 2048 ≤ length out
     → Reads out 0 (b .registers) (soFarOf x b .state) (lineRead (take least (b .line)) (soFarOf x b .state)) t q outRead i
     → Put outRead i (atEnd t) outLater j → Finishes x b out (lending (b .line) q) j outLater
 finish-line x b out outRead outLater least i j t q l e n h w p =

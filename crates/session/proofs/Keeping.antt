@@ -10,6 +10,7 @@ use borrow.Author.Tests.{leb-true, leb-false}
 use lib.Dec.{leb}
 use lib.ListN.{length, getD, set, take, drop, length-append}
 use lib.Seq.{sets, length-sets, sets-eq, take-all, take-at, take-suc, take-append-add, length-take-le}
+use Rattle.lines.specs.Feeding.{keptBytes}
 use Rattle.printing.specs.Writing.{Wrote}
 use Rattle.text.proofs.Lists.{sets-append}
 use Rattle.lines.proofs.Buffers.{sets-front}
@@ -36,18 +37,18 @@ stored-more line₀ line bytes start place h e =
     )
 
 -- Once all are that have a place, what is kept stands at the front.
-pub all-stored : (line₀ line bytes : List ℕ) (held start more place : ℕ) → length line ≡ 51 → start ≡ min held 51
-    → more ≡ min (51 - start) (length bytes) → place ≡ more → line ≡ sets line₀ start (take place bytes)
+pub all-stored : (line₀ line bytes : List ℕ) (held start more place : ℕ) → length line ≡ keptBytes → start ≡ min held keptBytes
+    → more ≡ min (keptBytes - start) (length bytes) → place ≡ more → line ≡ sets line₀ start (take place bytes)
     → Wrote line₀ 0 (keptOf line₀ held bytes) line (start + more)
 all-stored line₀ line bytes held start more place k s m p e =
-    let l : length line₀ ≡ 51 = sym (length-sets line₀ start (take place bytes)) ∙ ap length (sym e) ∙ k in
+    let l : length line₀ ≡ keptBytes = sym (length-sets line₀ start (take place bytes)) ∙ ap length (sym e) ∙ k in
     let front = least-taken line₀ held start (rw l s) in
     let long : length (take start line₀) ≡ start = length-take-le start line₀ (omega arith) in
-    let room : start + (51 - start) ≡ 51 = omega arith in
+    let room : start + (keptBytes - start) ≡ keptBytes = omega arith in
     let kept : keptOf line₀ held bytes ≡ take start line₀ ++ take more bytes
-    = rw (← front) (ap (λ (k : ℕ). take k (take start line₀ ++ bytes)) (sym (ap (λ (k : ℕ). k + (51 - start)) long ∙ room))
-    ∙ take-append-add (take start line₀) bytes (51 - start)
-    ∙ ap (λ (r : List ℕ). take start line₀ ++ r) (sym (least-taken bytes (51 - start) more m))) in
+    = rw (← front) (ap (λ (k : ℕ). take k (take start line₀ ++ bytes)) (sym (ap (λ (k : ℕ). k + (keptBytes - start)) long ∙ room))
+    ∙ take-append-add (take start line₀) bytes (keptBytes - start)
+    ∙ ap (λ (r : List ℕ). take start line₀ ++ r) (sym (least-taken bytes (keptBytes - start) more m))) in
     record {
       bytes = rw (kept, sets-append line₀ 0 (take start line₀) (take more bytes), sets-front start line₀, long, zero-add) (rw p at e);
       end = rw (kept, length-append) (omega (arith, long, length-take-le more bytes (omega arith)));

@@ -11,7 +11,7 @@ use Rattle.text.specs.Text.{placeOf}
 use Rattle.lines.specs.Statement.{State, Outcome, counted, lineRead}
 use Rattle.progress.specs.Progressing.{lineAt, isRunExpected, runsBytes, runsState, RunsRead}
 use Rattle.progress.proofs.RunLines.{expected-newline, run-read, run-quiet, bytes-none, state-none, bytes-more, state-more}
-use Rattle.lines.specs.Feeding.{SoFar, after, printed, takenOf, Registers, withReadings, registersAfter}
+use Rattle.lines.specs.Feeding.{keptBytes, SoFar, after, printed, takenOf, Registers, withReadings, registersAfter}
 use Rattle.session.specs.Sessions.{Lent}
 use Rattle.session.specs.Taking.{TakesLine, Takes, held}
 use Rattle.lines.proofs.Streams.{cut-text, cut-state, newline-state, newline-text}
@@ -41,18 +41,18 @@ module _ (l : List ℕ) (s : State) (h : isRunExpected l s ≡ true) where
   whole : take (placeOf 10 l + 1) l ≡ lineAt l ++ 10 ∷ []
   whole = newline-last l (expected-newline l s h)
 
-  front : after (held [] s) (lineAt l) ≡ held (take 51 (lineAt l)) s
+  front : after (held [] s) (lineAt l) ≡ held (take keptBytes (lineAt l)) s
   front = front-state (held [] s) l (omega arith)
 
   one-state : after (held [] s) (take (placeOf 10 l + 1) l) ≡ held [] (lineRead (lineAt l) s .state)
   one-state =
       rw (whole, after-newline (held [] s) (lineAt l), front)
-      (newline-state (held (take 51 (lineAt l)) s) 10 refl ∙ rw (line-cut (lineAt l) s))
+      (newline-state (held (take keptBytes (lineAt l)) s) 10 refl ∙ rw (line-cut (lineAt l) s))
 
   one-text : printed (held [] s) (take (placeOf 10 l + 1) l) ≡ []
   one-text =
       rw (whole, printed-newline (held [] s) (lineAt l), front-text (held [] s) l, front)
-      (newline-text (held (take 51 (lineAt l)) s) 10 refl ∙ rw (line-cut (lineAt l) s) (run-quiet l s h))
+      (newline-text (held (take keptBytes (lineAt l)) s) 10 refl ∙ rw (line-cut (lineAt l) s) (run-quiet l s h))
 
   one-taken : (room : ℕ) → 1024 ≤ room
       → takenOf room (held [] s) l ≡ placeOf 10 l + 1 + takenOf room (held [] (lineRead (lineAt l) s .state)) (drop (placeOf 10 l + 1) l)

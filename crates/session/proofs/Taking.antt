@@ -10,7 +10,7 @@ use lib.Dec.{eqb}
 use lib.ListN.{length, take, drop, length-take}
 use lib.Seq.{take-all}
 use Rattle.text.specs.Text.{placeOf}
-use Rattle.lines.specs.Feeding.{SoFar, afterByte, byteText, after, printed, takenOf}
+use Rattle.lines.specs.Feeding.{keptBytes, SoFar, afterByte, byteText, after, printed, takenOf}
 use Rattle.session.specs.Taking.{lineBytes}
 use Rattle.lines.proofs.Lengths.{text-fits}
 use Rattle.lines.proofs.Streams.{newline-text, other-state, other-text, kept-again}
@@ -73,19 +73,19 @@ front-text x (b ∷ l) = by (eqb b 10) refl (front-text (afterByte x b) l)
     by true e more = refl
     by false e more = rw (other-text x b e) more
 
--- At most 51 bytes are kept.
+-- At most so many bytes are kept.
 abbrev kept : SoFar → List ℕ → SoFar
-kept x l = record { line = take 51 (x .line ++ l); state = x .state }
+kept x l = record { line = take keptBytes (x .line ++ l); state = x .state }
 
-kept-none : (x : SoFar) → length (x .line) ≤ 51 → x ≡ kept x []
-kept-none x h = sym (rw (append-nil (x .line), take-all 51 (x .line) h))
+kept-none : (x : SoFar) → length (x .line) ≤ keptBytes → x ≡ kept x []
+kept-none x h = sym (rw (append-nil (x .line), take-all keptBytes (x .line) h))
 
-pub front-state : (x : SoFar) (l : List ℕ) → length (x .line) ≤ 51
-    → after x (take (placeOf 10 l) l) ≡ record { line = take 51 (x .line ++ take (placeOf 10 l) l); state = x .state }
+pub front-state : (x : SoFar) (l : List ℕ) → length (x .line) ≤ keptBytes
+    → after x (take (placeOf 10 l) l) ≡ record { line = take keptBytes (x .line ++ take (placeOf 10 l) l); state = x .state }
 unfolding placeOf after
 front-state x [] h = kept-none x h
 front-state x (b ∷ l) h = by (eqb b 10) refl
-    (front-state (kept x (b ∷ [])) l (omega (arith, length-take 51 (x .line ++ b ∷ []))))
+    (front-state (kept x (b ∷ [])) l (omega (arith, length-take keptBytes (x .line ++ b ∷ []))))
   where
     by : (t : Bool) → eqb b 10 ≡ t
         → after (kept x (b ∷ [])) (take (placeOf 10 l) l) ≡ kept (kept x (b ∷ [])) (take (placeOf 10 l) l)
@@ -93,7 +93,7 @@ front-state x (b ∷ l) h = by (eqb b 10) refl
     by true e more = kept-none x h
     by false e more =
         ap (λ (y : SoFar). after y (take (placeOf 10 l) l)) (other-state x b e)
-        ∙ more ∙ rw (kept-again 51 (x .line ++ b ∷ []) (take (placeOf 10 l) l), append-assoc)
+        ∙ more ∙ rw (kept-again keptBytes (x .line ++ b ∷ []) (take (placeOf 10 l) l), append-assoc)
 
 -- One line of the input is taken, and the rest of it from there on.
 pub line-taken : (room : ℕ) (x : SoFar) (l : List ℕ) → 1024 ≤ room

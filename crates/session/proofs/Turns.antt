@@ -11,7 +11,7 @@ use Rattle.text.specs.Text.{placeOf}
 use Rattle.printing.specs.Writing.{hasRoom, Wrote}
 use Rattle.lines.specs.Statement.{State, lineRead}
 use Rattle.progress.specs.Progressing.{Reads}
-use Rattle.lines.specs.Feeding.{SoFar, afterByte, byteText, after, printed, Registers, withReadings, registersAfter}
+use Rattle.lines.specs.Feeding.{keptBytes, SoFar, afterByte, byteText, after, printed, Registers, withReadings, registersAfter}
 use Rattle.session.specs.Sessions.{Lent}
 use Rattle.session.specs.Taking.{keptOf, lineBytes, TakesLine}
 use Rattle.text.proofs.Laws.{place-within}
@@ -61,18 +61,18 @@ line-registers x l r h e =
     (cut-registers x front (10 ∷ []) r ∙ ap (withReadings (afterByte (after x front) 10 .state)) (front-registers x l r e))
 
 -- What is kept fits into the buffer.
-pub kept-within : (line whole input : List ℕ) (held more e : ℕ) → length whole ≡ 51 → Wrote line 0 (keptOf line held (take e input)) whole more
+pub kept-within : (line whole input : List ℕ) (held more e : ℕ) → length whole ≡ keptBytes → Wrote line 0 (keptOf line held (take e input)) whole more
     → more ≤ length whole
-kept-within line whole input held more e long k = omega (arith, long, k .end, length-take 51 (take held line ++ take e input))
+kept-within line whole input held more e long k = omega (arith, long, k .end, length-take keptBytes (take held line ++ take e input))
 
 -- The bytes before the newline stand at the front of a copy of the buffer, behind those that were held.
 module _ (line whole input out : List ℕ) (held more e i : ℕ) (s : State) (r : Registers) (same : r ≡ withReadings s r) (p : e ≡ placeOf 10 input)
-    (long : length whole ≡ 51) (k : Wrote line 0 (keptOf line held (take e input)) whole more) where
-  size : length line ≡ 51
+    (long : length whole ≡ keptBytes) (k : Wrote line 0 (keptOf line held (take e input)) whole more) where
+  size : length line ≡ keptBytes
   size = sym (length-sets line 0 (keptOf line held (take e input))) ∙ ap length (sym (k .bytes)) ∙ long
 
   front : take more whole ≡ keptOf line held (take e input)
-  front = kept-front line whole (keptOf line held (take e input)) more (omega (arith, size, length-take 51 (take held line ++ take e input))) k
+  front = kept-front line whole (keptOf line held (take e input)) more (omega (arith, size, length-take keptBytes (take held line ++ take e input))) k
 
   state : after (holding (take held line) s) (take e input) ≡ holding (take more whole) s
   state = rw (front, p) (front-state (holding (take held line) s) input (omega (arith, size, length-take held line)))

@@ -13,8 +13,8 @@ ghost use Rattle.session.specs.Taking.{keptOf, TakesLine, Takes, held};
 use progress::Ended;
 use progress::Progress;
 
-// The most bytes that are kept of a line that isn't complete yet.
-const KEPT_BYTES: usize = 51;
+// The most bytes that are kept of a line that isn't complete yet: one more than the longest readable line has.
+pub const KEPT_BYTES: usize = 98;
 
 // Room for the last two texts.
 const LEAST_ROOM: usize = 2048;
@@ -38,7 +38,7 @@ pub struct Fed {
 
 // The buffer for the line that isn't complete yet, and how many bytes are held there.
 struct Kept {
-    line: [u8; 51],
+    line: [u8; KEPT_BYTES],
     held: usize,
 }
 
@@ -53,7 +53,7 @@ fn least(a: usize, b: usize) -> usize
 }
 
 // The bytes that are kept of a line with more of them behind, and how many are held then. What lies past them in the buffer stays there.
-fn keep(line: [u8; 51], held: usize, bytes: &[u8]) -> Kept
+fn keep(line: [u8; KEPT_BYTES], held: usize, bytes: &[u8]) -> Kept
     ensures { λ r. ⌜ Wrote line 0 (keptOf line held (now (bytes .entry))) (r .line) (r .held) ⌝ }
 {
     let start = least(held, KEPT_BYTES);
@@ -90,7 +90,7 @@ fn read_held(
 // held in a copy of the buffer, which is stored only where the line isn't complete.
 fn take_line(
     session: Session,
-    line: &mut [u8; 51],
+    line: &mut [u8; KEPT_BYTES],
     delivered: &mut [u32; 2976],
     received: &mut [u32; 2976],
     input: &[u8],
@@ -130,7 +130,7 @@ fn take_line(
 // Takes the run lines at the front of the input; or one line, where there are none.
 fn take_runs(
     progress: Progress,
-    line: &mut [u8; 51],
+    line: &mut [u8; KEPT_BYTES],
     delivered: &mut [u32; 2976],
     received: &mut [u32; 2976],
     input: &[u8],
@@ -159,7 +159,7 @@ fn take_runs(
 // Takes run lines, or the rest of one line.
 fn take_lines(
     session: Session,
-    line: &mut [u8; 51],
+    line: &mut [u8; KEPT_BYTES],
     delivered: &mut [u32; 2976],
     received: &mut [u32; 2976],
     input: &[u8],
@@ -196,7 +196,7 @@ impl Session {
     // Takes bytes as long as any one text still fits into the buffer for texts; none where it has less room than for two.
     pub fn feed(
         self,
-        line: &mut [u8; 51],
+        line: &mut [u8; KEPT_BYTES],
         delivered: &mut [u32; 2976],
         received: &mut [u32; 2976],
         input: &[u8],
@@ -245,7 +245,7 @@ impl Session {
     // The end of the input: writes the texts that are left, where there is room for them, and says how many bytes they have.
     pub fn finish(
         self,
-        line: &[u8; 51],
+        line: &[u8; KEPT_BYTES],
         delivered: &mut [u32; 2976],
         received: &mut [u32; 2976],
         out: &mut [u8],

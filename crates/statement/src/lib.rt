@@ -210,7 +210,7 @@ fn tell_front(out: &[u8], written: usize, telling: Telling, status: u32) -> Told
 // Gives a session bytes until it has taken all, and tells its texts in between.
 fn give(
     session: Session,
-    line: &mut [u8; 51],
+    line: &mut [u8; session::KEPT_BYTES],
     delivered: &mut [u32; 2976],
     received: &mut [u32; 2976],
     input: &[u8],
@@ -250,7 +250,7 @@ fn give(
 // Tells what the end of the input prints.
 fn finish(
     session: Session,
-    line: &[u8; 51],
+    line: &[u8; session::KEPT_BYTES],
     delivered: &mut [u32; 2976],
     received: &mut [u32; 2976],
     out: &mut [u8],
@@ -283,7 +283,7 @@ pub extern "C" fn statement_print(
         table,
         explain,
     };
-    let mut line = [0u8; 51];
+    let mut line = [0u8; session::KEPT_BYTES];
     let mut delivered = [0u32; 2976];
     let mut received = [0u32; 2976];
     let mut buffer = io::large_buffer();

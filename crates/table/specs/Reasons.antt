@@ -12,7 +12,7 @@ abbrev pub wrong : List (List ℕ)
 wrong =
     bytesOf "the account was never opened"
     ∷ bytesOf "an amount above 1,000,000, or an energy price above the one before"
-    ∷ bytesOf "nameplate 0, above line 5, or above 20 kW (home) or 1,000 kW (business)"
+    ∷ bytesOf "a nameplate of 0, or a total above line 5, 20 kW (home), or 1,000 kW (business)"
     ∷ bytesOf "a business under the bridge rider"
     ∷ bytesOf "a first month after December 2099"
     ∷ bytesOf "not the month that is next"

@@ -77,28 +77,28 @@ const REASON_BEGINS: [usize; 27] = [
     89,
     155,
     178,
-    249,
-    270,
-    303,
-    345,
-    378,
-    392,
-    418,
-    479,
-    534,
-    570,
-    630,
-    653,
-    681,
-    698,
-    754,
-    766,
-    805,
-    858,
-    898,
-    914,
-    974,
-    1015,
+    257,
+    278,
+    311,
+    353,
+    386,
+    400,
+    426,
+    487,
+    542,
+    578,
+    638,
+    661,
+    689,
+    706,
+    762,
+    774,
+    813,
+    866,
+    906,
+    922,
+    982,
+    1023,
 ];
 
 // The next number of a line, and where the rest of the line begins.
@@ -480,7 +480,7 @@ fn put_text(
     let rows =
         b"the account was never opened; repair the opening; its number is in the first line printed\
         an amount above 1,000,000, or an energy price above the one before; correct lines 7 to 14\
-        nameplate 0, above line 5, or above 20 kW (home) or 1,000 kW (business); correct line 4 or 5\
+        a nameplate of 0, or a total above line 5, 20 kW (home), or 1,000 kW (business); correct line 4 or 5\
         a business under the bridge rider; make it a home, or take the banked rider\
         a first month after December 2099; open earlier\
         not the month that is next; bill the months in order, each once, from line 1's month on\

@@ -2,24 +2,24 @@
 use mathlib.Core.Path.{_≡_, refl}
 use mathlib.Core.Bool.{Bool, true, false, _||_}
 use mathlib.Core.List.{List, [], _∷_}
-use Prim.Native.Nat.{ℕ, zero, suc, _≤_}
+use Prim.Native.Nat.{ℕ, zero, suc, _-_, _^_, _≤_, _<_, min}
 use native.Mathlib.Omega.{arith}
-use borrow.Author.Tests.{ltb-false}
-use lib.Dec.{ltb}
+use borrow.Author.Tests.{ltb-false, le-leb, lt-leb, leb-true, leb-false}
+use lib.Dec.{leb, ltb}
 use lib.ListN.{getD}
 use Rattle.tariff.specs.declared.Class.{Class}
 use Rattle.tariff.specs.declared.Class.the-variants.{Home, Business}
 use Rattle.tariff.specs.declared.Terms.{Terms}
 use Rattle.tariff.specs.declared.PriceList.{PriceList}
 use Rattle.tariff.specs.Tariff.{priceLimit, amountLimit, someOver, ninePrices, pricesRise, pricesRefused}
-use Rattle.tariff.specs.Tariff.{nameplateOf, someBelowOne, classLimit, capacityLimit, capacityRefused}
+use Rattle.tariff.specs.Tariff.{totalNameplate, someBelowOne, classLimit, capacityLimit, capacityRefused}
 
 -- Where neither of two tests is true, each is false.
-or-left : (a b : Bool) → (a || b) ≡ false → a ≡ false
+pub or-left : (a b : Bool) → (a || b) ≡ false → a ≡ false
 or-left true b h = h
 or-left false b h = refl
 
-or-right : (a b : Bool) → (a || b) ≡ false → b ≡ false
+pub or-right : (a b : Bool) → (a || b) ≡ false → b ≡ false
 or-right true b h = cc
 or-right false b h = h
 
@@ -86,24 +86,30 @@ pub capacityLimit-le : (t : Terms) → capacityLimit t ≤ classLimit Business
 unfolding capacityLimit
 capacityLimit-le t = classLimit-le (t .class)
 
--- An accepted nameplate is from 1 W up to the demand limit and the limit beside it, and so up to the limit of a business.
+-- An accepted total nameplate is at most the demand limit and the limit beside it, and so at most the limit of a business.
 pub record NameplateWithin (t : Terms) : Type 0 where
-  pub least : 1 ≤ nameplateOf t
-  pub demand : nameplateOf t ≤ t .limit
-  pub capacity : nameplateOf t ≤ capacityLimit t
-  pub most : nameplateOf t ≤ classLimit Business
+  pub demand : totalNameplate t ≤ t .limit
+  pub capacity : totalNameplate t ≤ capacityLimit t
+  pub most : totalNameplate t ≤ classLimit Business
 
 pub nameplate-within : (t : Terms) → capacityRefused t ≡ false → NameplateWithin t
-unfolding capacityRefused someBelowOne nameplateOf
+unfolding capacityRefused
 nameplate-within t h =
     let least : Bool = someBelowOne t in
-    let demand : Bool = ltb (t .limit) (nameplateOf t) in
-    let class : Bool = ltb (capacityLimit t) (nameplateOf t) in
+    let demand : Bool = ltb (t .limit) (totalNameplate t) in
+    let class : Bool = ltb (capacityLimit t) (totalNameplate t) in
     let both : (least || demand) ≡ false = or-left (least || demand) class h in
-    let capacity : nameplateOf t ≤ capacityLimit t = ltb-false _ _ (or-right (least || demand) class h) in
+    let capacity : totalNameplate t ≤ capacityLimit t = ltb-false _ _ (or-right (least || demand) class h) in
     record {
-      least = ltb-false _ _ (or-left least demand both);
       demand = ltb-false _ _ (or-right least demand both);
       capacity = capacity;
       most = omega (arith, capacity, capacityLimit-le t);
     }
+
+-- The total nameplate as the code has it, up to the largest number of 64 bits, is within a smaller limit where the total is.
+pub capped-within : (n r limit : ℕ) → r ≡ min n (2 ^ 64 - 1) → limit < 2 ^ 64 - 1 → leb r limit ≡ leb n limit
+capped-within n r limit e h = by (leb n limit) refl
+  where
+    by : (t : Bool) → leb n limit ≡ t → leb r limit ≡ t
+    by true f = le-leb r limit (omega (arith, leb-true n limit f))
+    by false f = lt-leb r limit (omega (arith, leb-false n limit f))

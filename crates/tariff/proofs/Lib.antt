@@ -1,2 +1,3 @@
 pub mod Laws
+mod Nameplates
 mod Order

@@ -1,8 +1,10 @@
--- Document 01, "Account and price list" and refusals 4, 5 and 6 of the table: terms and price lists that an opening takes.
+-- Document 01, "Account and price list" and refusals 4, 5 and 6 of the table, with 02 No. 3 and its refusal 12: terms and price lists that an
+-- opening takes.
 use mathlib.Core.Bool.{Bool, true, false, _&&_, _||_}
 use mathlib.Core.List.{List, [], _∷_}
-use Prim.Native.Nat.{ℕ}
+use Prim.Native.Nat.{ℕ, _+_}
 use lib.Dec.{ltb}
+use lib.ListN.{getD, take}
 use Rattle.hours.specs.declared.ByPeriod.{ByPeriod}
 use Rattle.tariff.specs.declared.Rider.{Rider}
 use Rattle.tariff.specs.declared.Rider.the-variants.{Banked, Bridge}
@@ -40,13 +42,35 @@ unfoldable pub pricesRefused : PriceList → Bool
 pricesRefused l =
     someOver priceLimit (ninePrices l) || someOver amountLimit (l .basic ∷ l .minimum ∷ []) || pricesRise (l .energy)
 
--- The nameplate that the upper limits and each money line speak of, in W.
-unfoldable pub nameplateOf : Terms → ℕ
-nameplateOf t = t .nameplate
+-- 02 No. 3: "The terms hold one to eight nameplates." They have eight places, those of the code always, and a count, and the nameplates stand in
+-- the first places, as many as the count says. What stands past them is no nameplate.
+abbrev pub mostNameplates : ℕ
+mostNameplates = 8
 
--- "The nameplate is 1 W up to ..": whether one is less.
+unfoldable pub nameplatesOf : Terms → List ℕ
+nameplatesOf t = take (t .count) (t .nameplates)
+
+-- Refusal 12 (02 No. 3): "none or more than eight nameplates".
+unfoldable pub nameplatesRefused : Terms → Bool
+nameplatesRefused t = ltb (t .count) 1 || ltb mostNameplates (t .count)
+
+-- The sum of some numbers.
+abbrev pub sumOfAll : List ℕ → ℕ
+sumOfAll [] = 0
+sumOfAll (x ∷ xs) = x + sumOfAll xs
+
+-- The total nameplate, in W. 02 No. 3: "Every limit, standby, bypass and the 8,000 W exemption use the total."
+unfoldable pub totalNameplate : Terms → ℕ
+totalNameplate t = sumOfAll (nameplatesOf t)
+
+-- Whether one of some numbers is below a least one.
+abbrev pub someUnder : ℕ → List ℕ → Bool
+someUnder least [] = false
+someUnder least (x ∷ xs) = ltb x least || someUnder least xs
+
+-- 02 No. 3: "Each is at least 1 W", and "a nameplate of 0 stays 5": whether one is less.
 unfoldable pub someBelowOne : Terms → Bool
-someBelowOne t = ltb (t .nameplate) 1
+someBelowOne t = someUnder 1 (nameplatesOf t)
 
 -- "up to 20,000 W for a home or 1,000,000 W for a business"
 abbrev pub classLimit : Class → ℕ
@@ -57,9 +81,10 @@ classLimit Business = 1000000
 unfoldable pub capacityLimit : Terms → ℕ
 capacityLimit t = classLimit (t .class)
 
--- Refusal 5: "nameplate outside its limits", which are "1 W up to the demand limit, and also up to" the limit beside it.
+-- Refusal 5: "nameplate outside its limits", which are "1 W up to the demand limit, and also up to" the limit beside it; with 02 No. 3 the 1 W is
+-- a rule on each nameplate and the upper limits are rules on the total.
 unfoldable pub capacityRefused : Terms → Bool
-capacityRefused t = someBelowOne t || ltb (t .limit) (nameplateOf t) || ltb (capacityLimit t) (nameplateOf t)
+capacityRefused t = someBelowOne t || ltb (t .limit) (totalNameplate t) || ltb (capacityLimit t) (totalNameplate t)
 
 -- "Terms: rider (banked or bridge), class (home or business)": each as a test.
 abbrev pub isBanked : Rider → Bool
@@ -77,3 +102,9 @@ isBusiness Business = true
 -- Refusal 6: "bridge rider for a business".
 unfoldable pub bridgeRefused : Terms → Bool
 bridgeRefused t = isBridge (t .rider) && isBusiness (t .class)
+
+-- The eight places of terms as they stand among other numbers: eight numbers of xs from the k-th after a start on; 0 past the end of xs.
+abbrev pub eightAt : List ℕ → ℕ → ℕ → List ℕ
+eightAt xs start k =
+    getD xs (start + k) 0 ∷ getD xs (start + (k + 1)) 0 ∷ getD xs (start + (k + 2)) 0 ∷ getD xs (start + (k + 3)) 0
+    ∷ getD xs (start + (k + 4)) 0 ∷ getD xs (start + (k + 5)) 0 ∷ getD xs (start + (k + 6)) 0 ∷ getD xs (start + (k + 7)) 0 ∷ []

@@ -1,9 +1,11 @@
-// Terms and price lists of document 01, and the refusals that they alone decide.
+// Terms and price lists of document 01, with the nameplates of 02 No. 3, and the refusals that they alone decide.
 ghost use mathlib.Core.Path.{_≡_};
 ghost use mathlib.Core.Bool.{_||_};
 ghost use mathlib.Core.List.{[], _∷_};
-ghost use Rattle.tariff.specs.Tariff.{priceLimit, amountLimit, someOver, pricesRise, pricesRefused, nameplateOf, classLimit};
-ghost use Rattle.tariff.specs.Tariff.{someBelowOne, capacityLimit, capacityRefused, bridgeRefused, isBanked, isBridge, isBusiness};
+ghost use Prim.Native.Nat.{_+_, _-_, _^_, min};
+ghost use Rattle.tariff.specs.Tariff.{priceLimit, amountLimit, someOver, pricesRise, pricesRefused, mostNameplates, nameplatesRefused};
+ghost use Rattle.tariff.specs.Tariff.{totalNameplate, classLimit, someBelowOne, capacityLimit, capacityRefused, bridgeRefused};
+ghost use Rattle.tariff.specs.Tariff.{isBanked, isBridge, isBusiness};
 use hours::ByPeriod;
 
 // The banked rider (Rider NM) and the bridge rider (Rider NMB).
@@ -17,12 +19,17 @@ pub enum Class {
     Business,
 }
 
-// Terms of an account. The nameplate is in W, and so is the demand limit: the estimated largest demand of a home, the contract demand of a
-// business. An assisted customer pays no shortfall up to a nameplate.
+// The most nameplates that terms hold (02 No. 3).
+pub const MOST_NAMEPLATES: usize = 8;
+
+// Terms of an account. The first places have its nameplates, as many as the count says; what stands past them is no nameplate. They are in W, and
+// so is the demand limit: the estimated largest demand of a home, the contract demand of a business. An assisted customer whose
+// total is at most 8,000 W pays no shortfall.
 pub struct Terms {
     pub rider: Rider,
     pub class: Class,
-    pub nameplate: u64,
+    pub count: u64,
+    pub nameplates: [u64; MOST_NAMEPLATES],
     pub limit: u64,
     pub assisted: bool,
 }
@@ -47,11 +54,49 @@ const HOME_LIMIT: u64 = 20_000;
 
 const BUSINESS_LIMIT: u64 = 1_000_000;
 
-// The nameplate that each limit and each line speaks of, in W.
-pub fn nameplate_of(terms: Terms) -> u64
-    ensures { λ r. ⌜ r ≡ nameplateOf terms ⌝ }
+// How many places have a nameplate.
+fn places_held(count: u64) -> usize
+    ensures { λ r. ⌜ r ≡ min count mostNameplates ⌝ }
 {
-    terms.nameplate
+    if count < MOST_NAMEPLATES as u64 {
+        return count as usize;
+    }
+    MOST_NAMEPLATES
+}
+
+// A sum, or the largest number of 64 bits where the sum passes it.
+fn capped_sum(a: u64, b: u64) -> u64
+    ensures { λ r. ⌜ r ≡ min (a + b) (2 ^ 64 - 1) ⌝ }
+{
+    if u64::MAX - a < b {
+        return u64::MAX;
+    }
+    a + b
+}
+
+// The total nameplate, in W. A total that 64 bits can't hold, which 5 refuses, stays at their largest number.
+pub fn total_nameplate(terms: Terms) -> u64
+    ensures { λ r. ⌜ r ≡ min (totalNameplate terms) (2 ^ 64 - 1) ⌝ }
+{
+    let nameplates = terms.nameplates;
+    let count = places_held(terms.count);
+    let mut total = 0;
+    let mut place = 0;
+    while place < count {
+        total = capped_sum(total, nameplates[place]);
+        place += 1;
+    }
+    total
+}
+
+// Whether there is no nameplate or more than eight (number 12).
+pub fn nameplates_refused(terms: Terms) -> bool
+    ensures { λ r. ⌜ r ≡ nameplatesRefused terms ⌝ }
+{
+    if terms.count < 1 {
+        return true;
+    }
+    (MOST_NAMEPLATES as u64) < terms.count
 }
 
 pub fn is_banked(rider: Rider) -> bool
@@ -81,7 +126,7 @@ pub fn is_business(class: Class) -> bool
     }
 }
 
-// The largest nameplate of a class, in W.
+// The largest total nameplate of a class, in W.
 pub fn class_limit(class: Class) -> u64
     ensures { λ r. ⌜ r ≡ classLimit class ⌝ }
 {
@@ -95,11 +140,19 @@ pub fn class_limit(class: Class) -> u64
 fn some_below_one(terms: Terms) -> bool
     ensures { λ r. ⌜ r ≡ someBelowOne terms ⌝ }
 {
-    let nameplate = terms.nameplate;
-    nameplate < 1
+    let nameplates = terms.nameplates;
+    let held = places_held(terms.count);
+    let mut place = 0;
+    while place < held {
+        if nameplates[place] < 1 {
+            return true;
+        }
+        place += 1;
+    }
+    false
 }
 
-// The largest nameplate beside the demand limit, in W.
+// The largest total nameplate beside the demand limit, in W.
 fn capacity_limit(terms: Terms) -> u64
     ensures { λ r. ⌜ r ≡ capacityLimit terms ⌝ }
 {
@@ -166,14 +219,14 @@ pub fn prices_refused(prices: PriceList) -> bool
     amounts_refused(prices)
 }
 
-// Whether a nameplate is refused (number 5).
+// Whether a nameplate, or the total of all, is refused (number 5).
 pub fn capacity_refused(terms: Terms) -> bool
     ensures { λ r. ⌜ r ≡ capacityRefused terms ⌝ }
 {
     if some_below_one(terms) {
         return true;
     }
-    let nameplate = nameplate_of(terms);
+    let nameplate = total_nameplate(terms);
     if terms.limit < nameplate {
         return true;
     }

@@ -67,7 +67,7 @@ fn add(text: &mut [u8], place: usize, chunk: &[u8], bytes: usize) -> usize
 // Feeds a session a piece of the input, or as much of it as the chunk has room for what it prints, and adds that to the text.
 fn feed_some(
     session: Session,
-    line: &mut [u8; 51],
+    line: &mut [u8; session::KEPT_BYTES],
     delivered: &mut [u32; 2976],
     received: &mut [u32; 2976],
     input: &[u8],
@@ -90,7 +90,7 @@ fn feed_some(
 // Adds what the end of the input prints.
 fn finish(
     session: Session,
-    line: &[u8; 51],
+    line: &[u8; session::KEPT_BYTES],
     delivered: &mut [u32; 2976],
     received: &mut [u32; 2976],
     text: &mut [u8],
@@ -109,7 +109,7 @@ pub fn statement_of(input: &[u8], text: &mut [u8]) -> u64
     ensures long { λ r. ⌜ r ≡ lengthOf (statementOf (now (input .entry))) ⌝ }
     ensures unaltered { λ r. ⌜ now (input .exit) ≡ now (input .entry) ⌝ }
 {
-    let mut line = [0u8; 51];
+    let mut line = [0u8; session::KEPT_BYTES];
     let mut delivered = [0u32; 2976];
     let mut received = [0u32; 2976];
     let mut session = Session::start();

@@ -5,7 +5,9 @@ use crate::usage::so_far;
 use crate::{interface, median};
 use bench::bill::{billing, by_stretch, by_table, Tallying};
 use harness::random::Random;
-use harness::reference::account::{Account, Answer, Assisted, Class, PriceList, Rider, Terms};
+use harness::reference::account::{
+    Account, Answer, Assisted, Class, Nameplates, PriceList, Rider, Terms,
+};
 use harness::reference::calendar::LAST_MONTH;
 use harness::reference::calls::opening;
 use harness::reference::gaps::LOST;
@@ -23,7 +25,7 @@ const LIST_ROUNDS: usize = 7;
 const TERMS: Terms = Terms {
     rider: Rider::Banked,
     class: Class::Home,
-    nameplate: 8_000,
+    nameplates: Nameplates::one(8_000),
     demand_limit: 9_000,
     assisted: Assisted::No,
 };

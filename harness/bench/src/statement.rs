@@ -4,7 +4,7 @@
 //! few are read by the reference.
 
 use crate::bill::{billing, by_table};
-use harness::reference::account::{Account, Bill, ByPeriod, PriceList, Terms};
+use harness::reference::account::{Account, Bill, ByPeriod, Nameplates, PriceList, Terms};
 use harness::reference::calls::opening;
 use harness::reference::statement::{
     assisted, class, entered_month, rider, EnteredMonth, MOST_READINGS,
@@ -127,7 +127,7 @@ impl<In: Read, Out: Write> Program<In, Out> {
         let terms = Terms {
             rider: self.take("rider=", rider)?,
             class: self.take("class=", class)?,
-            nameplate: self.take("nameplate=", number)?,
+            nameplates: self.take("nameplate=", nameplates)?,
             demand_limit: self.take("limit=", number)?,
             assisted: self.take("assisted=", assisted)?,
         };
@@ -185,6 +185,15 @@ fn number(text: &[u8]) -> Option<u32> {
         number = 10 * number + u64::from(byte - b'0');
     }
     u32::try_from(number).ok()
+}
+
+fn nameplates(text: &[u8]) -> Option<Nameplates> {
+    let mut nameplates = Nameplates::default();
+    for part in text.split(|&byte| byte == b',') {
+        *nameplates.places.get_mut(nameplates.count as usize)? = number(part)?.into();
+        nameplates.count += 1;
+    }
+    Some(nameplates)
 }
 
 fn numbers<const COUNT: usize>(text: &[u8]) -> Option<[u32; COUNT]> {

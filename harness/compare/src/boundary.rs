@@ -1,13 +1,16 @@
 //! Lists at, below and above each limit of 01, each edge of a window, each half cent,
-//! each order of refusals, each place of a gap, and each place in a pair of quarters.
+//! each order of refusals, each place of a gap, each place in a pair of quarters, and each count
+//! and place of nameplates; and calls on accounts that hold these, or are at a bound.
 
 use crate::lists::List;
-use harness::reference::account::{Assisted, Class, PriceList, Rider, Terms};
+use harness::reference::account::{
+    Account, Assisted, Class, Nameplates, PriceList, Rider, State, Terms, MOST_NAMEPLATES,
+};
 use harness::reference::calendar::{days_in_month, month_of_year, LAST_MONTH};
 use harness::reference::gaps::LOST;
 use harness::reference::hours::{first_reading, register_length};
 use harness::reference::ledger::Call;
-use harness::reference::refusal::{LARGEST_PRICE, LARGEST_READING};
+use harness::reference::refusal::{LARGEST_PRICE, LARGEST_READING, MOST_CARRIED, MOST_STANDING};
 use std::ops::Range;
 
 // Months of 28, 29, 30 and 31 days.
@@ -33,7 +36,7 @@ const CRITICAL_DAYS: u32 = 1;
 
 pub fn lists() -> Vec<List> {
     // The large ones come when few wrong variants are left to be tried on them.
-    let sets: [(&str, Vec<Vec<Call>>); 16] = [
+    let sets: [(&str, Vec<Vec<Call>>); 18] = [
         ("price lists", price_lists()),
         ("months", months()),
         ("a full book", full_book()),
@@ -43,6 +46,8 @@ pub fn lists() -> Vec<List> {
         ("half cents", half_cents()),
         ("credit and need", sharing()),
         ("faults together", faults()),
+        ("nameplates", nameplates()),
+        ("totals of nameplates", totals()),
         ("gaps at the end of a month", gaps_at_the_end()),
         ("gaps beside large readings", gaps_beside_large()),
         ("edges of windows", windows()),
@@ -66,7 +71,7 @@ pub fn lists() -> Vec<List> {
 const HOME: Terms = Terms {
     rider: Rider::Banked,
     class: Class::Home,
-    nameplate: 8_000,
+    nameplates: Nameplates::one(8_000),
     demand_limit: 9_000,
     assisted: Assisted::No,
 };
@@ -268,7 +273,7 @@ fn terms() -> Vec<Vec<Call>> {
                     let terms = Terms {
                         rider,
                         class,
-                        nameplate,
+                        nameplates: Nameplates::one(u64::from(nameplate)),
                         demand_limit,
                         assisted,
                     };
@@ -282,6 +287,245 @@ fn terms() -> Vec<Vec<Call>> {
         }
     }
     lists
+}
+
+/// So many nameplates of 1,000 W, and others in the places past them.
+fn thousands(count: usize, others: u64) -> Nameplates {
+    let mut places = [others; MOST_NAMEPLATES];
+    places[..count].fill(1_000);
+    Nameplates {
+        count: count as u64,
+        places,
+    }
+}
+
+/// One to eight, with anything in the places past them; a 0 in each place.
+fn countable() -> Vec<Nameplates> {
+    let mut sets = Vec::new();
+    for count in 1..=MOST_NAMEPLATES {
+        for others in [0, 1, 20_000, u64::MAX] {
+            sets.push(thousands(count, others));
+        }
+        for place in 0..count {
+            let mut nameplates = thousands(count, 1_000);
+            nameplates.places[place] = 0;
+            sets.push(nameplates);
+        }
+    }
+    sets
+}
+
+/// Totals past 32 bits and past 64. In so many bits most are 0, 1, 5,000 or all ones.
+fn wide() -> Vec<Nameplates> {
+    let two_to_the_32 = 1 << 32;
+    let sets: [&[u64]; 14] = [
+        &[two_to_the_32 - 1, 1],
+        &[two_to_the_32 - 1, 2],
+        &[two_to_the_32 / 2 + 2_500; 2],
+        &[two_to_the_32, 5_000],
+        &[5_000, two_to_the_32],
+        &[two_to_the_32 + 5_000],
+        &[u64::MAX],
+        &[u64::MAX, 1],
+        &[2, u64::MAX],
+        &[1 << 63, (1 << 63) + 5_000],
+        &[1, 1, u64::MAX, 4_999],
+        &[1 << 61; 8],
+        &[(1 << 61) + 625; 8],
+        &[u64::MAX; 8],
+    ];
+    sets.into_iter().filter_map(Nameplates::of).collect()
+}
+
+/// Counts that are refused, some of them 0, 1 or 8 in fewer bits, with places that would be
+/// accepted and such as wouldn't.
+fn uncountable() -> Vec<Nameplates> {
+    let two_to_the_32 = 1 << 32;
+    let mut sets = Vec::new();
+    for count in [
+        0,
+        9,
+        10,
+        256,
+        257,
+        two_to_the_32,
+        two_to_the_32 + 1,
+        two_to_the_32 + 8,
+        1 << 63,
+        u64::MAX,
+    ] {
+        for places in [
+            [0; MOST_NAMEPLATES],
+            Nameplates::one(5_000).places,
+            [1_000; MOST_NAMEPLATES],
+            [u64::MAX; MOST_NAMEPLATES],
+        ] {
+            sets.push(Nameplates { count, places });
+        }
+    }
+    sets
+}
+
+/// A home, a home under the bridge rider, and a business, with nameplates that their demand
+/// limit is no hindrance to.
+fn each_with(nameplates: Nameplates) -> [Terms; 3] {
+    let home = Terms {
+        nameplates,
+        demand_limit: u32::MAX,
+        ..HOME
+    };
+    let bridge = Terms {
+        rider: Rider::Bridge,
+        ..home
+    };
+    let business = Terms {
+        class: Class::Business,
+        ..home
+    };
+    [home, bridge, business]
+}
+
+/// Each set of nameplates, opened, billed and closed. A second opening is refused, or takes
+/// the place of a first one that was.
+fn nameplates() -> Vec<Vec<Call>> {
+    let other = Terms {
+        nameplates: thousands(2, 77),
+        ..HOME
+    };
+    let mut lists = Vec::new();
+    for nameplates in [countable(), wide(), uncountable()].concat() {
+        for terms in each_with(nameplates) {
+            let calls = [
+                opening(terms, PRICES, FEBRUARY_2001),
+                Month::usual(FEBRUARY_2001).bill(),
+                opening(other, PRICES, FEBRUARY_2001),
+                Call::Repricing { price_list: PRICES },
+                Call::Closing,
+            ];
+            // What the account holds after an opening, a bill and the rest.
+            lists.extend([1, 2, 5].map(|length| calls[..length].to_vec()));
+        }
+    }
+    lists
+}
+
+/// Totals at, below and above each limit in two to eight nameplates: all but one of 1 W, so
+/// that none passes the limit by itself, and as even as they can be.
+fn totals() -> Vec<Vec<Call>> {
+    let mut lists = Vec::new();
+    let [home, bridge, business] = each_with(Nameplates::default());
+    let assisted = Terms {
+        assisted: Assisted::Yes,
+        ..bridge
+    };
+    let limited = Terms {
+        demand_limit: 9_000,
+        ..home
+    };
+    for (terms, limit) in [
+        (bridge, 8_000),
+        (assisted, 8_000),
+        (limited, 9_000),
+        (home, 20_000),
+        (bridge, 20_000),
+        (business, 100_000),
+        (business, 1_000_000),
+    ] {
+        for total in [limit - 1, limit, limit + 1] {
+            for count in 2..=MOST_NAMEPLATES {
+                let others = count as u64 - 1;
+                let mut lopsided = vec![1; count];
+                lopsided[total as usize % count] = total - others;
+                let mut even = vec![total / count as u64; count];
+                even[0] += total % count as u64;
+                for watts in [lopsided, even] {
+                    let nameplates = Nameplates::of(&watts).expect("two to eight");
+                    lists.push(vec![
+                        opening(
+                            Terms {
+                                nameplates,
+                                ..terms
+                            },
+                            PRICES,
+                            FEBRUARY_2001,
+                        ),
+                        Month::usual(FEBRUARY_2001).bill(),
+                    ]);
+                }
+            }
+        }
+    }
+    lists
+}
+
+/// An account that can be billed and closed.
+const OPEN: Account = Account {
+    state: State::Open,
+    terms: HOME,
+    price_list: PRICES,
+    next_month: FEBRUARY_2001,
+    carried: [1, 2, 3, 4],
+    standing: 5,
+};
+
+/// Accounts made by hand, each with the call that it meets.
+pub fn accounts() -> Vec<(Account, Call)> {
+    [at_bounds(), with_nameplates()].concat()
+}
+
+/// Closings of open accounts at, below and above each bound of refusal 3.
+fn at_bounds() -> Vec<(Account, Call)> {
+    let mut accounts = Vec::new();
+    for more in [0, 1, 2] {
+        for period in 0..4 {
+            let mut account = OPEN;
+            account.carried[period] = MOST_CARRIED - 1 + more;
+            accounts.push(account);
+        }
+        accounts.push(Account {
+            standing: MOST_STANDING - 1 + more,
+            ..OPEN
+        });
+        accounts.push(Account {
+            next_month: LAST_MONTH + more as u32,
+            ..OPEN
+        });
+    }
+    let closed = accounts.into_iter().map(|account| (account, Call::Closing));
+    closed.collect()
+}
+
+/// Each set of nameplates: where the account is open, all calls.
+fn with_nameplates() -> Vec<(Account, Call)> {
+    let calls = |nameplates: Nameplates| {
+        let other = Terms {
+            nameplates: thousands(3, 77),
+            ..HOME
+        };
+        let same = Terms { nameplates, ..HOME };
+        [
+            Call::Closing,
+            opening(other, PRICES, FEBRUARY_2001),
+            opening(same, PRICES, FEBRUARY_2001),
+            Call::Repricing { price_list: PRICES },
+            Month::usual(FEBRUARY_2001).bill(),
+        ]
+    };
+    let mut accounts = Vec::new();
+    for nameplates in [countable(), wide(), uncountable()].concat() {
+        for terms in each_with(nameplates) {
+            for (state, count) in [(State::Fresh, 3), (State::Open, 5), (State::Closed, 3)] {
+                let account = Account {
+                    state,
+                    terms,
+                    ..OPEN
+                };
+                let calls = calls(nameplates).into_iter().take(count);
+                accounts.extend(calls.map(|call| (account, call)));
+            }
+        }
+    }
+    accounts
 }
 
 /// First months, and the months beside the next one.
@@ -584,11 +828,16 @@ fn faults() -> Vec<Vec<Call>> {
     };
     faulty.push(Call::Repricing { price_list: rising });
     let has = |set: u32, fault: u32| (set >> fault) & 1 == 1;
-    for set in 0..16 {
+    for set in 0..32 {
         let has = |fault| has(set, fault);
+        let mut nameplates = Nameplates::one(if has(0) { 0 } else { 8_000 });
+        if has(4) {
+            nameplates.count = 9;
+            nameplates.places[1..].fill(1);
+        }
         faulty.push(opening(
             Terms {
-                nameplate: if has(0) { 0 } else { 8_000 },
+                nameplates,
                 class: if has(1) { Class::Business } else { Class::Home },
                 rider: if has(1) { Rider::Bridge } else { Rider::Banked },
                 ..HOME
@@ -742,20 +991,14 @@ fn half_cents() -> Vec<Vec<Call>> {
         }
     }
     for more in [0, 1, 2] {
-        let business = Terms {
-            class: Class::Business,
-            nameplate: 124_999 + more,
-            demand_limit: 200_000,
-            ..HOME
-        };
-        let bridge = Terms {
-            nameplate: 19_998 + more,
-            demand_limit: 20_000,
-            ..BRIDGE
-        };
-        for terms in [business, bridge] {
+        // In one nameplate, and in two that come to less than half a cent each.
+        let business = [&[124_999 + more][..], &[60_000, 64_999 + more]];
+        let bridge = [&[19_998 + more][..], &[10_000, 9_998 + more]];
+        for (place, watts) in [business, bridge].concat().into_iter().enumerate() {
+            let nameplates = Nameplates::of(watts).expect("one or two");
+            let [_, bridge, business] = each_with(nameplates);
             lists.push(vec![
-                opening(terms, ones, FEBRUARY_2001),
+                opening([business, bridge][place / 2], ones, FEBRUARY_2001),
                 Month::usual(FEBRUARY_2001).bill(),
             ]);
         }

@@ -2,8 +2,8 @@
 
 use crate::compare::{Difference, Room, Run};
 use crate::encode::{
-    Buffers, ACCOUNT, ACCOUNT_LIMIT, BILLING, CRITICAL_DAYS, DELIVERED, KIND, MONTH, RECEIVED,
-    RECORD, ROW,
+    Buffers, ACCOUNT, BILLING, CLOSING, COUNT, CRITICAL_DAYS, DELIVERED, KIND, LIMIT, MONTH,
+    NAMEPLATES, OPENING, RECEIVED, RECORD, ROW,
 };
 use crate::interface::Counts;
 use crate::meaning::{calls_in, limit_shown};
@@ -50,7 +50,7 @@ fn meant(buffers: &Buffers, room: Room) -> Run {
     let ledger = run(&calls);
     let mut run = Run::expected(&ledger, room);
     let limit = limit_shown(buffers, &calls, &ledger.answers);
-    if let (Some(limit), Some(place)) = (limit, run.written.account.get_mut(ACCOUNT_LIMIT)) {
+    if let (Some(limit), Some(place)) = (limit, run.written.account.get_mut(LIMIT)) {
         *place = limit;
     }
     run
@@ -106,6 +106,11 @@ fn changes(base: &Buffers) -> Vec<Change> {
     for place in 0..numbers {
         changes.extend(NUMBERS.map(|number| Change::Number { place, number }));
     }
+    // The first record is an opening; other counts of its nameplates.
+    changes.extend((5..=10).map(|number| Change::Number {
+        place: COUNT,
+        number,
+    }));
     changes.extend((0..numbers).map(|length| Change::Calls { length }));
     for delivered in cuts(base.delivered.len()) {
         changes.extend(cuts(base.received.len()).map(|received| Change::Registers {
@@ -118,7 +123,8 @@ fn changes(base: &Buffers) -> Vec<Change> {
     changes
 }
 
-/// Accepted calls of each kind, and an opening that isn't.
+/// Accepted calls of each kind, and an opening that isn't. It has some nameplates, and numbers
+/// in the places past them.
 fn base() -> Buffers {
     let is_usual = |calls: &Vec<Call>| {
         let accepted = run(calls).answers.iter().all(|answer| answer.number == 0);
@@ -132,7 +138,7 @@ fn base() -> Buffers {
                 Call::Billing { .. },
             ]
         );
-        accepted && kinds
+        accepted && kinds && has_some_nameplates(&calls[0])
     };
     let mut calls = (0..)
         .map(|seed| generate::list(&mut Random::new(seed), 5))
@@ -140,6 +146,11 @@ fn base() -> Buffers {
         .expect("some seed has such a list");
     calls.extend([Call::Closing, calls[0].clone()]);
     Buffers::of(&calls)
+}
+
+fn has_some_nameplates(call: &Call) -> bool {
+    matches!(call, Call::Opening { terms, .. }
+        if (2..=6).contains(&terms.nameplates.count) && terms.nameplates.places[7] > 0)
 }
 
 /// Lengths for a register that has this one.
@@ -245,7 +256,17 @@ fn count(number: usize) -> u64 {
     number as u64
 }
 
-const MISREADINGS: [Misreading; 10] = [
+/// The openings that `is_none` holds of are no calls.
+fn without_openings(mut buffers: Buffers, is_none: fn(&[u64]) -> bool) -> Buffers {
+    for record in buffers.calls.chunks_exact_mut(RECORD) {
+        if record[KIND] == OPENING && is_none(record) {
+            record[KIND] = CLOSING + 1;
+        }
+    }
+    buffers
+}
+
+const MISREADINGS: [Misreading; 12] = [
     (
         "the list goes on after a record that is no call",
         Misread::Buffers(|buffers| {
@@ -305,6 +326,21 @@ const MISREADINGS: [Misreading; 10] = [
                 }
             }
             buffers
+        }),
+    ),
+    (
+        "an opening with another count of nameplates than 1 to 8 is no call",
+        Misread::Buffers(|buffers| {
+            without_openings(buffers, |record| !(1..=8).contains(&record[COUNT]))
+        }),
+    ),
+    (
+        "an opening with a nameplate of more than 32 bits is no call",
+        Misread::Buffers(|buffers| {
+            without_openings(buffers, |record| {
+                let mut places = record[NAMEPLATES..LIMIT].iter();
+                places.any(|&watts| watts > u64::from(u32::MAX))
+            })
         }),
     ),
     (

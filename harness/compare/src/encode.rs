@@ -2,34 +2,45 @@
 //! and from their numbers.
 
 use harness::reference::account::{
-    Account, Answer, Assisted, Bill, ByPeriod, Class, Closing, PriceList, Rider, State, Terms,
+    Account, Answer, Assisted, Bill, ByPeriod, Class, Closing, Nameplates, PriceList, Rider, State,
+    Terms, MOST_NAMEPLATES,
 };
 use harness::reference::ledger::{Amounts, Call};
 
 /// Numbers of a call.
-pub const RECORD: usize = 18;
+pub const RECORD: usize = 26;
 /// Numbers of an answer.
 pub const ROW: usize = 60;
 /// Numbers of the account.
-pub const ACCOUNT: usize = 23;
+pub const ACCOUNT: usize = 31;
 
 pub type Record = [u64; RECORD];
 pub type Row = [u64; ROW];
 pub type AccountRow = [u64; ACCOUNT];
 
-// Places in a record.
-pub const KIND: usize = 0;
+// Places of terms and price list, in a record and in an account.
 pub const RIDER: usize = 1;
 pub const CLASS: usize = 2;
-pub const NAMEPLATE: usize = 3;
-pub const LIMIT: usize = 4;
-pub const ASSISTED: usize = 5;
-pub const PRICES: usize = 6;
-pub const FIRST_MONTH: usize = 17;
+pub const COUNT: usize = 3;
+pub const NAMEPLATES: usize = 4;
+pub const LIMIT: usize = 12;
+pub const ASSISTED: usize = 13;
+pub const PRICES: usize = 14;
+const PRICES_END: usize = 25;
+
+// Other places in a record.
+pub const KIND: usize = 0;
+pub const FIRST_MONTH: usize = 25;
 pub const MONTH: usize = 1;
 pub const DELIVERED: usize = 2;
 pub const RECEIVED: usize = 3;
 pub const CRITICAL_DAYS: usize = 4;
+
+// Other places in an account.
+pub const STAGE: usize = 0;
+pub const NEXT: usize = 25;
+const CARRIED: usize = 26;
+const STANDING: usize = 30;
 
 // Kinds of call.
 pub const OPENING: u64 = 0;
@@ -71,7 +82,15 @@ const ACCOUNT_NAMES: [&str; ACCOUNT] = [
     "stage",
     "rider",
     "class",
-    "nameplate",
+    "count of nameplates",
+    "place 0 of nameplates",
+    "place 1 of nameplates",
+    "place 2 of nameplates",
+    "place 3 of nameplates",
+    "place 4 of nameplates",
+    "place 5 of nameplates",
+    "place 6 of nameplates",
+    "place 7 of nameplates",
     "demand limit",
     "assisted",
     "energy price of period 0",
@@ -92,9 +111,6 @@ const ACCOUNT_NAMES: [&str; ACCOUNT] = [
     "carried of period 3",
     "standing",
 ];
-
-/// Place of the demand limit in an account.
-pub const ACCOUNT_LIMIT: usize = 4;
 
 /// What a number of an answer is.
 pub fn row_name(place: usize) -> String {
@@ -185,6 +201,26 @@ pub fn assisted_of(code: u64) -> Option<Assisted> {
         .find(|&assisted| assisted_code(assisted) == code)
 }
 
+/// Puts terms into a record or an account.
+fn put_terms(numbers: &mut [u64], terms: &Terms) {
+    numbers[RIDER] = rider_code(terms.rider);
+    numbers[CLASS] = class_code(terms.class);
+    numbers[COUNT] = terms.nameplates.count;
+    numbers[NAMEPLATES..LIMIT].copy_from_slice(&terms.nameplates.places);
+    numbers[LIMIT] = u64::from(terms.demand_limit);
+    numbers[ASSISTED] = assisted_code(terms.assisted);
+}
+
+/// The nameplates of a record or an account: every number is one that can stand there.
+pub fn nameplates_at(numbers: &[u64]) -> Nameplates {
+    let mut places = [0; MOST_NAMEPLATES];
+    places.copy_from_slice(&numbers[NAMEPLATES..LIMIT]);
+    Nameplates {
+        count: numbers[COUNT],
+        places,
+    }
+}
+
 /// The eleven amounts in the order of a record and of the account.
 fn price_numbers(list: &PriceList) -> [u64; 11] {
     [
@@ -228,17 +264,13 @@ pub fn record_of(call: &Call) -> Record {
             first_month,
         } => {
             record[KIND] = OPENING;
-            record[RIDER] = rider_code(terms.rider);
-            record[CLASS] = class_code(terms.class);
-            record[NAMEPLATE] = u64::from(terms.nameplate);
-            record[LIMIT] = u64::from(terms.demand_limit);
-            record[ASSISTED] = assisted_code(terms.assisted);
-            record[PRICES..FIRST_MONTH].copy_from_slice(&price_numbers(price_list));
+            put_terms(&mut record, terms);
+            record[PRICES..PRICES_END].copy_from_slice(&price_numbers(price_list));
             record[FIRST_MONTH] = u64::from(*first_month);
         }
         Call::Repricing { price_list } => {
             record[KIND] = REPRICING;
-            record[PRICES..FIRST_MONTH].copy_from_slice(&price_numbers(price_list));
+            record[PRICES..PRICES_END].copy_from_slice(&price_numbers(price_list));
         }
         Call::Billing {
             month,
@@ -343,20 +375,16 @@ pub fn answer_of(call: &Call, row: &Row) -> Option<Answer<Amounts>> {
 /// The numbers of an account.
 pub fn account_row(account: &Account) -> AccountRow {
     let mut row = [0; ACCOUNT];
-    row[0] = match account.state {
+    row[STAGE] = match account.state {
         State::Fresh => 0,
         State::Open => 1,
         State::Closed => 2,
     };
-    row[1] = rider_code(account.terms.rider);
-    row[2] = class_code(account.terms.class);
-    row[3] = u64::from(account.terms.nameplate);
-    row[ACCOUNT_LIMIT] = u64::from(account.terms.demand_limit);
-    row[5] = assisted_code(account.terms.assisted);
-    row[6..17].copy_from_slice(&price_numbers(&account.price_list));
-    row[17] = u64::from(account.next_month);
-    row[18..22].copy_from_slice(&account.carried);
-    row[22] = account.standing;
+    put_terms(&mut row, &account.terms);
+    row[PRICES..PRICES_END].copy_from_slice(&price_numbers(&account.price_list));
+    row[NEXT] = u64::from(account.next_month);
+    row[CARRIED..STANDING].copy_from_slice(&account.carried);
+    row[STANDING] = account.standing;
     row
 }
 
@@ -365,25 +393,25 @@ pub fn account_of(row: &AccountRow) -> Option<Account> {
     let narrow = |place: usize| u32::try_from(row[place]).ok();
     let mut prices = [0; 11];
     for (place, price) in prices.iter_mut().enumerate() {
-        *price = narrow(6 + place)?;
+        *price = narrow(PRICES + place)?;
     }
     Some(Account {
-        state: match row[0] {
+        state: match row[STAGE] {
             0 => State::Fresh,
             1 => State::Open,
             2 => State::Closed,
             _ => return None,
         },
         terms: Terms {
-            rider: rider_of(row[1])?,
-            class: class_of(row[2])?,
-            nameplate: narrow(3)?,
-            demand_limit: narrow(ACCOUNT_LIMIT)?,
-            assisted: assisted_of(row[5])?,
+            rider: rider_of(row[RIDER])?,
+            class: class_of(row[CLASS])?,
+            nameplates: nameplates_at(row),
+            demand_limit: narrow(LIMIT)?,
+            assisted: assisted_of(row[ASSISTED])?,
         },
         price_list: price_list_of(prices),
-        next_month: narrow(17)?,
-        carried: [row[18], row[19], row[20], row[21]],
-        standing: row[22],
+        next_month: narrow(NEXT)?,
+        carried: [0, 1, 2, 3].map(|period| row[CARRIED + period]),
+        standing: row[STANDING],
     })
 }

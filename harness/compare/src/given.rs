@@ -1,8 +1,11 @@
 //! One call on an account made by hand, impossible ones among them; and numbers that
 //! are no account or no call, which must leave everything as it was.
 
+use crate::boundary;
 use crate::compare::{Difference, Room, Written};
-use crate::encode::{account_row, record_of, ACCOUNT, ROW};
+use crate::encode::{
+    account_row, record_of, ACCOUNT, ASSISTED, CLASS, KIND, NEXT, RIDER, ROW, STAGE,
+};
 use crate::interface;
 use crate::rules::Rules;
 use crate::wrong::{self, Wrong};
@@ -42,6 +45,17 @@ pub fn random(first_seed: u64, count: u64) -> impl Iterator<Item = Given> {
     })
 }
 
+/// Calls on accounts at each bound, and with each set of nameplates.
+pub fn boundary() -> impl Iterator<Item = Given> {
+    let accounts = boundary::accounts().into_iter().enumerate();
+    accounts.map(|(index, (account, call))| Given {
+        name: format!("call on given account {index}"),
+        account,
+        call,
+        room: Room::for_calls(1),
+    })
+}
+
 impl Given {
     pub fn by_library(&self) -> Option<Written> {
         by_library(
@@ -78,28 +92,63 @@ impl Given {
         };
         let longer = |numbers: &[u64]| [numbers, &[0]].concat();
         let shorter = |numbers: &[u64]| numbers[..numbers.len() - 1].to_vec();
-        vec![
-            ("stage 3", with(&account, 0, 3), call.clone()),
-            ("rider 2 of the account", with(&account, 1, 2), call.clone()),
-            ("class 2 of the account", with(&account, 2, 2), call.clone()),
+        let mut spoiled = vec![
+            ("stage 3", with(&account, STAGE, 3), call.clone()),
+            (
+                "rider 2 of the account",
+                with(&account, RIDER, 2),
+                call.clone(),
+            ),
+            (
+                "class 2 of the account",
+                with(&account, CLASS, 2),
+                call.clone(),
+            ),
             (
                 "assisted 2 of the account",
-                with(&account, 5, 2),
+                with(&account, ASSISTED, 2),
                 call.clone(),
             ),
             (
                 "next month of 33 bits",
-                with(&account, 17, 1 << 32),
+                with(&account, NEXT, 1 << 32),
                 call.clone(),
             ),
-            ("24 numbers of an account", longer(&account), call.clone()),
-            ("22 numbers of an account", shorter(&account), call.clone()),
+            (
+                "a number more of an account",
+                longer(&account),
+                call.clone(),
+            ),
+            (
+                "a number fewer of an account",
+                shorter(&account),
+                call.clone(),
+            ),
+            (
+                "an account of the layout before",
+                account[..23].to_vec(),
+                call.clone(),
+            ),
             ("no numbers of an account", vec![], call.clone()),
-            ("kind 4", account.clone(), with(&call, 0, 4)),
-            ("19 numbers of a call", account.clone(), longer(&call)),
-            ("17 numbers of a call", account.clone(), shorter(&call)),
-            ("no numbers of a call", account, vec![]),
-        ]
+            ("kind 4", account.clone(), with(&call, KIND, 4)),
+            ("a number more of a call", account.clone(), longer(&call)),
+            ("a number fewer of a call", account.clone(), shorter(&call)),
+            (
+                "a call of the layout before",
+                account.clone(),
+                call[..18].to_vec(),
+            ),
+            ("no numbers of a call", account.clone(), vec![]),
+        ];
+        // A code is known or not by its whole number.
+        for code in [4, 5, 7, 9, 256, 257, 1 << 32, (1 << 32) + 1, u64::MAX] {
+            for place in [STAGE, RIDER, CLASS, ASSISTED] {
+                let account = with(&account, place, code);
+                spoiled.push(("another code of the account", account, call.clone()));
+            }
+            spoiled.push(("another kind", account.clone(), with(&call, KIND, code)));
+        }
+        spoiled
     }
 
     /// Whether the library leaves both buffers as they were for such numbers.
@@ -145,7 +194,7 @@ pub struct Met {
 
 impl Met {
     pub fn add(&mut self, given: &Given) {
-        let kind = record_of(&given.call)[0] as usize;
+        let kind = record_of(&given.call)[KIND] as usize;
         match given.number() {
             0 => self.accepted[kind] = true,
             3 => self.impossible[kind] = true,

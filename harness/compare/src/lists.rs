@@ -3,7 +3,7 @@
 use crate::boundary;
 use harness::generate;
 use harness::random::Random;
-use harness::reference::account::{Account, Assisted, Class, PriceList, Rider, Terms};
+use harness::reference::account::{Account, Assisted, Class, Nameplates, PriceList, Rider, Terms};
 use harness::reference::calendar::LAST_MONTH;
 use harness::reference::hours::register_length;
 use harness::reference::ledger::{answer, Call};
@@ -104,7 +104,7 @@ fn even_book(rider: Rider, delivered: u32, received: u32) -> Vec<Call> {
         terms: Terms {
             rider,
             class: Class::Home,
-            nameplate: 20_000,
+            nameplates: Nameplates::one(20_000),
             demand_limit: 20_000,
             assisted: Assisted::No,
         },

@@ -1,13 +1,13 @@
 //! What any buffers mean, by the words of `include/kozempil.h`: damaged ones too.
 //!
-//! The second implementation takes powers and prices of 32 bits, the library lends
+//! The second implementation takes demand limits and prices of 32 bits, the library lends
 //! them in 64. A number above 32 bits is read as the largest of 32: it is beyond the
 //! same limits. Only an accepted demand limit shows which it was (`limit_shown`).
 
 use crate::encode::{
-    assisted_of, class_of, price_list_of, rider_of, Buffers, Record, ASSISTED, BILLING, CLASS,
-    CLOSING, CRITICAL_DAYS, DELIVERED, FIRST_MONTH, KIND, LIMIT, MONTH, NAMEPLATE, OPENING, PRICES,
-    RECEIVED, RECORD, REPRICING, RIDER,
+    assisted_of, class_of, nameplates_at, price_list_of, rider_of, Buffers, Record, ASSISTED,
+    BILLING, CLASS, CLOSING, CRITICAL_DAYS, DELIVERED, FIRST_MONTH, KIND, LIMIT, MONTH, OPENING,
+    PRICES, RECEIVED, RECORD, REPRICING, RIDER,
 };
 use harness::reference::account::{Answer, PriceList, Terms};
 use harness::reference::ledger::{Amounts, Call};
@@ -38,7 +38,7 @@ pub fn call_of(record: &Record, delivered: &mut &[u32], received: &mut &[u32]) -
             terms: Terms {
                 rider: rider_of(record[RIDER])?,
                 class: class_of(record[CLASS])?,
-                nameplate: saturated(record[NAMEPLATE]),
+                nameplates: nameplates_at(record),
                 demand_limit: saturated(record[LIMIT]),
                 assisted: assisted_of(record[ASSISTED])?,
             },

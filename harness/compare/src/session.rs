@@ -213,7 +213,7 @@ impl Session {
     fn given_accounts(&mut self, seed: u64, count: u64) {
         let mut met = given::Met::default();
         let mut watch = given::Watch::new();
-        for given in given::random(0, FIXED_GIVEN) {
+        for given in given::random(0, FIXED_GIVEN).chain(given::boundary()) {
             if let Some(library) = self.given_account(&given) {
                 met.add(&given);
                 watch.look(&given, &library);

@@ -82,8 +82,8 @@ fn terms_text(terms: &Terms) -> String {
         Assisted::Yes => "assisted",
     };
     format!(
-        "{rider} {class}, nameplate {}, demand limit {}, {assisted}",
-        terms.nameplate, terms.demand_limit
+        "{rider} {class}, {} nameplates in {:?}, demand limit {}, {assisted}",
+        terms.nameplates.count, terms.nameplates.places, terms.demand_limit
     )
 }
 

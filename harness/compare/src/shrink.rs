@@ -2,7 +2,9 @@
 //! registers with fewer readings, fewer that aren't 0 and smaller ones, then fewer
 //! other numbers.
 
-use crate::encode::{record_of, BILLING, CRITICAL_DAYS, FIRST_MONTH, KIND, NAMEPLATE, RIDER};
+use crate::encode::{
+    record_of, BILLING, COUNT, CRITICAL_DAYS, FIRST_MONTH, KIND, LIMIT, NAMEPLATES, RIDER,
+};
 use crate::meaning::call_of;
 use harness::reference::ledger::Call;
 
@@ -158,16 +160,22 @@ impl Search<'_> {
         }
     }
 
-    /// Sets each other number of the call's record to 0; a nameplate to 1.
+    /// Sets each other number of the call's record to 0; a count of nameplates, and each
+    /// place of one, to 1 first.
     fn zero_numbers(&mut self, index: usize) {
         let record = record_of(&self.calls[index]);
         let places = match record[KIND] {
             BILLING => CRITICAL_DAYS..CRITICAL_DAYS + 1,
             _ => RIDER..FIRST_MONTH + 1,
         };
-        for place in places {
+        let smallest = places.flat_map(|place| match place {
+            COUNT | NAMEPLATES..LIMIT => vec![(place, 1), (place, 0)],
+            _ => vec![(place, 0)],
+        });
+        for (place, number) in smallest {
             let mut record = record_of(&self.calls[index]);
-            record[place] = if place == NAMEPLATE { 1 } else { 0 };
+            // What is 0 stays so.
+            record[place] = record[place].min(number);
             let mut call = self.calls[index].clone();
             let registers = [Register::Delivered, Register::Received]
                 .map(|register| register.of(&mut call).cloned().unwrap_or_default());

@@ -4,7 +4,7 @@
 use crate::compare::{Difference, Room, Written};
 use crate::rules::{settle, sum_of, Metered, Pair, Rules, Settled};
 use harness::reference::account::{
-    Account, Assisted, ByPeriod, Class, PriceList, Rider, State, Terms,
+    Account, Assisted, ByPeriod, Class, Nameplates, PriceList, Rider, State, Terms, MOST_NAMEPLATES,
 };
 use harness::reference::calendar::{
     days_in_month, month_of_year, weekday, year, Clocks, DayKind, Season, Weekday, JUNE,
@@ -57,6 +57,7 @@ pub fn all() -> Vec<Wrong> {
         demands(),
         refusals(),
         accounts(),
+        nameplates(),
         gaps(),
     ];
     sets.concat()
@@ -169,13 +170,61 @@ pub fn given() -> Vec<Wrong> {
             "refusal 3 doesn't ask for the account's nameplate",
             Rules {
                 of_billing: |account, month, delivered, received, critical_days| {
-                    let terms = Terms {
-                        nameplate: 1,
-                        demand_limit: 1,
-                        ..account.terms
-                    };
+                    let terms = smallest(&account.terms);
                     let changed = Account { terms, ..*account };
                     refusal::of_billing(&changed, month, delivered, received, critical_days)
+                },
+                ..RIGHT
+            },
+        ),
+        (
+            "refusal 3 doesn't ask for the count of nameplates",
+            closing(|account| match is_known(&account.terms.nameplates) {
+                true => closed_as(*account),
+                false => closed_as(Account {
+                    terms: smallest(&account.terms),
+                    ..*account
+                }),
+            }),
+        ),
+        (
+            "refusal 3 doesn't ask for a 0 among several nameplates",
+            closing(|account| closed_as(with_nameplates_of(account, without_zeros))),
+        ),
+        (
+            "refusal 3 adds nameplates up in 64 bits",
+            closing(|account| closed_as(with_nameplates_of(account, wrapped_at_64))),
+        ),
+        (
+            "refusal 3 adds up what stands past the count",
+            closing(|account| closed_as(with_nameplates_of(account, all_added))),
+        ),
+        (
+            "refusal 3 asks for the first nameplate alone",
+            closing(|account| closed_as(with_nameplates_of(account, first_alone))),
+        ),
+        (
+            "a refusal clears what stands past the count",
+            Rules {
+                after: |before, _, after| match after == *before {
+                    true => cleared(after),
+                    false => after,
+                },
+                ..RIGHT
+            },
+        ),
+        (
+            "an opening keeps what stood past the count",
+            Rules {
+                after: |before, call, after| match call {
+                    Call::Opening { .. } if before.state == State::Fresh => {
+                        let mut kept = after;
+                        let count = after.terms.nameplates.each().len();
+                        let stood = before.terms.nameplates.places;
+                        kept.terms.nameplates.places[count..].copy_from_slice(&stood[count..]);
+                        kept
+                    }
+                    _ => after,
                 },
                 ..RIGHT
             },
@@ -622,11 +671,12 @@ fn money() -> Vec<Named> {
         (
             "standby from 100,000 W on",
             Rules {
-                standby: |terms, prices| match (terms.class, terms.nameplate) {
-                    (Class::Business, STANDBY_FREE) => {
-                        cents(product(u64::from(STANDBY_FREE), prices.standby))
+                standby: |terms, prices| {
+                    let is_at_limit = terms.nameplates.total() == u128::from(STANDBY_FREE);
+                    match terms.class == Class::Business && is_at_limit {
+                        true => cents(product(u64::from(STANDBY_FREE), prices.standby)),
+                        false => steps::standby(terms, prices),
                     }
-                    _ => steps::standby(terms, prices),
                 },
                 ..RIGHT
             },
@@ -648,7 +698,7 @@ fn money() -> Vec<Named> {
             "an assisted home of 8,000 W isn't spared",
             Rules {
                 shortfall: |terms, prices, billed| {
-                    let spared = terms.nameplate < ASSISTED_FREE;
+                    let spared = terms.nameplates.total() < u128::from(ASSISTED_FREE);
                     steps::shortfall(&assisted_if(terms, spared), prices, billed)
                 },
                 ..RIGHT
@@ -657,7 +707,7 @@ fn money() -> Vec<Named> {
         (
             "an assisted home of 8,001 W is spared",
             Rules {
-                shortfall: |terms, prices, billed| match terms.nameplate {
+                shortfall: |terms, prices, billed| match terms.nameplates.total() {
                     8_001 if terms.assisted == Assisted::Yes => 0,
                     _ => steps::shortfall(terms, prices, billed),
                 },
@@ -876,12 +926,7 @@ fn refusals_of_openings() -> Vec<Named> {
             "6 comes before 5",
             Rules {
                 of_opening: |account, terms, list, month| {
-                    let smallest = Terms {
-                        nameplate: 1,
-                        demand_limit: 1,
-                        ..*terms
-                    };
-                    refusal::of_opening(account, &smallest, list, month)
+                    refusal::of_opening(account, &smallest(terms), list, month)
                         .filter(|&refusal| refusal == Refusal::NoBridge)
                         .or_else(|| refusal::of_opening(account, terms, list, month))
                 },
@@ -893,8 +938,9 @@ fn refusals_of_openings() -> Vec<Named> {
             Rules {
                 of_opening: |account, terms, list, month| {
                     let mut terms = *terms;
-                    if terms.class == Class::Home && terms.nameplate == LARGEST_HOME + 1 {
-                        terms.nameplate -= 1;
+                    let above = Nameplates::one(u64::from(LARGEST_HOME) + 1);
+                    if terms.class == Class::Home && terms.nameplates == above {
+                        terms.nameplates = Nameplates::one(u64::from(LARGEST_HOME));
                         terms.demand_limit = terms.demand_limit.saturating_sub(1);
                     }
                     refusal::of_opening(account, &terms, list, month)
@@ -1195,6 +1241,419 @@ fn accounts() -> Vec<Named> {
                         standing: before.standing,
                         ..after
                     },
+                    _ => after,
+                },
+                ..RIGHT
+            },
+        ),
+    ]
+}
+
+fn nameplates() -> Vec<Named> {
+    [
+        totals_of_nameplates(),
+        counts_of_nameplates(),
+        refusals_of_nameplates(),
+        charges_of_nameplates(),
+        accounts_with_nameplates(),
+    ]
+    .concat()
+}
+
+/// The rules with other nameplates in the place of those that terms hold.
+fn with_nameplates(nameplates: fn(&Nameplates) -> Nameplates) -> Rules {
+    Rules {
+        nameplates,
+        ..RIGHT
+    }
+}
+
+fn with_nameplates_of(account: &Account, read: fn(&Nameplates) -> Nameplates) -> Account {
+    let terms = Terms {
+        nameplates: read(&account.terms.nameplates),
+        ..account.terms
+    };
+    Account { terms, ..*account }
+}
+
+/// Terms that no nameplate is refused in.
+fn smallest(terms: &Terms) -> Terms {
+    Terms {
+        nameplates: Nameplates::one(1),
+        demand_limit: 1,
+        ..*terms
+    }
+}
+
+/// Whether the count isn't refused.
+fn is_known(nameplates: &Nameplates) -> bool {
+    (1..=MOST_NAMEPLATES as u64).contains(&nameplates.count)
+}
+
+/// One nameplate of another total. Sets that are refused for their count, or for a 0, stay so.
+fn as_one(nameplates: &Nameplates, total: u64) -> Nameplates {
+    match is_known(nameplates) && !nameplates.each().contains(&0) {
+        true => Nameplates::one(total),
+        false => *nameplates,
+    }
+}
+
+fn largest_of(nameplates: &Nameplates) -> u64 {
+    nameplates.each().iter().copied().max().unwrap_or(0)
+}
+
+fn first_alone(nameplates: &Nameplates) -> Nameplates {
+    as_one(nameplates, nameplates.places[0])
+}
+
+fn largest_alone(nameplates: &Nameplates) -> Nameplates {
+    as_one(nameplates, largest_of(nameplates))
+}
+
+fn wrapped_at_64(nameplates: &Nameplates) -> Nameplates {
+    as_one(nameplates, nameplates.total() as u64)
+}
+
+/// The places past the count too.
+fn all_added(nameplates: &Nameplates) -> Nameplates {
+    let all = nameplates.places.iter().copied();
+    as_one(nameplates, all.fold(0, u64::saturating_add))
+}
+
+fn without_zeros(nameplates: &Nameplates) -> Nameplates {
+    let each = nameplates.each().iter().copied();
+    let others: Vec<u64> = each.filter(|&watts| watts > 0).collect();
+    Nameplates::of(&others)
+        .filter(|_| is_known(nameplates))
+        .unwrap_or(*nameplates)
+}
+
+fn totals_of_nameplates() -> Vec<Named> {
+    vec![
+        (
+            "only the first nameplate counts",
+            with_nameplates(first_alone),
+        ),
+        (
+            "only the last nameplate counts",
+            with_nameplates(|nameplates| {
+                let last = nameplates.each().last();
+                as_one(nameplates, last.copied().unwrap_or(0))
+            }),
+        ),
+        (
+            "only the largest nameplate counts",
+            with_nameplates(largest_alone),
+        ),
+        (
+            "the total wraps at 32 bits",
+            with_nameplates(|nameplates| {
+                let wrapped = nameplates.total() as u32;
+                as_one(nameplates, u64::from(wrapped))
+            }),
+        ),
+        ("the total wraps at 64 bits", with_nameplates(wrapped_at_64)),
+        (
+            "what stands past the count is added up",
+            with_nameplates(all_added),
+        ),
+        (
+            "a 0 among several nameplates is accepted",
+            with_nameplates(without_zeros),
+        ),
+        (
+            "a 0 past the count is refused",
+            with_nameplates(|nameplates| Nameplates {
+                count: match is_known(nameplates) {
+                    true => MOST_NAMEPLATES as u64,
+                    false => nameplates.count,
+                },
+                ..*nameplates
+            }),
+        ),
+    ]
+}
+
+/// The nameplates with another count.
+fn with_count(count: u64, nameplates: &Nameplates) -> Nameplates {
+    Nameplates {
+        count,
+        ..*nameplates
+    }
+}
+
+fn counts_of_nameplates() -> Vec<Named> {
+    vec![
+        (
+            "nine nameplates are taken as eight",
+            with_nameplates(|nameplates| with_count(read_as(nameplates.count, 9, 8), nameplates)),
+        ),
+        (
+            "any count above eight is taken as eight",
+            with_nameplates(|nameplates| with_count(nameplates.count.min(8), nameplates)),
+        ),
+        (
+            "eight nameplates are too many",
+            with_nameplates(|nameplates| with_count(read_as(nameplates.count, 8, 9), nameplates)),
+        ),
+        (
+            "the count has 32 bits",
+            with_nameplates(|nameplates| {
+                with_count(u64::from(nameplates.count as u32), nameplates)
+            }),
+        ),
+        (
+            "none is taken as one nameplate",
+            with_nameplates(|nameplates| with_count(nameplates.count.max(1), nameplates)),
+        ),
+        (
+            "none is refused by 5",
+            with_nameplates(|nameplates| match nameplates.count {
+                0 => Nameplates::one(0),
+                _ => *nameplates,
+            }),
+        ),
+        (
+            "more than eight are refused by 5",
+            with_nameplates(|nameplates| match nameplates.count > 8 {
+                true => Nameplates::one(0),
+                false => *nameplates,
+            }),
+        ),
+    ]
+}
+
+/// The refusal of an opening with the limits asked otherwise, where its nameplates have no
+/// other fault: for the class the first of two numbers, for the demand limit the second.
+fn limits_asked(
+    account: &Account,
+    terms: &Terms,
+    list: &PriceList,
+    month: u32,
+    [by_class, by_limit]: [u128; 2],
+) -> Option<Refusal> {
+    let nameplates = &terms.nameplates;
+    let by_class = u64::try_from(by_class).unwrap_or(u64::MAX);
+    let other = Terms {
+        nameplates: as_one(nameplates, by_class),
+        demand_limit: match by_limit <= u128::from(terms.demand_limit) {
+            true => u32::MAX,
+            false => 0,
+        },
+        ..*terms
+    };
+    refusal::of_opening(account, &other, list, month)
+}
+
+fn refusals_of_nameplates() -> Vec<Named> {
+    vec![
+        (
+            "5 comes before 12",
+            Rules {
+                of_opening: |account, terms, list, month| {
+                    let counted = Terms {
+                        nameplates: with_count(
+                            terms.nameplates.count.clamp(1, 8),
+                            &terms.nameplates,
+                        ),
+                        ..*terms
+                    };
+                    refusal::of_opening(account, &counted, list, month)
+                        .filter(|&refusal| refusal == Refusal::Capacity)
+                        .or_else(|| refusal::of_opening(account, terms, list, month))
+                },
+                ..RIGHT
+            },
+        ),
+        (
+            "6 comes before 12",
+            Rules {
+                of_opening: |account, terms, list, month| {
+                    let right = refusal::of_opening(account, terms, list, month);
+                    right
+                        .filter(|&refusal| refusal == Refusal::Nameplates)
+                        .and_then(|_| refusal::of_opening(account, &smallest(terms), list, month))
+                        .filter(|&refusal| refusal == Refusal::NoBridge)
+                        .or(right)
+                },
+                ..RIGHT
+            },
+        ),
+        (
+            "12 comes before 4",
+            Rules {
+                of_opening: |account, terms, list, month| {
+                    refusal::of_opening(account, terms, &PriceList::default(), month)
+                        .filter(|&refusal| refusal == Refusal::Nameplates)
+                        .or_else(|| refusal::of_opening(account, terms, list, month))
+                },
+                ..RIGHT
+            },
+        ),
+        (
+            "the limit of a class is one for each nameplate",
+            Rules {
+                of_opening: |account, terms, list, month| {
+                    let asked = [
+                        u128::from(largest_of(&terms.nameplates)),
+                        terms.nameplates.total(),
+                    ];
+                    limits_asked(account, terms, list, month, asked)
+                },
+                ..RIGHT
+            },
+        ),
+        (
+            "the demand limit is one for each nameplate",
+            Rules {
+                of_opening: |account, terms, list, month| {
+                    let asked = [
+                        terms.nameplates.total(),
+                        u128::from(largest_of(&terms.nameplates)),
+                    ];
+                    limits_asked(account, terms, list, month, asked)
+                },
+                ..RIGHT
+            },
+        ),
+    ]
+}
+
+/// The cents of each nameplate, rounded by itself, added up.
+fn rounded_each(terms: &Terms, price: u32) -> u64 {
+    let each = terms.nameplates.each().iter();
+    each.map(|&watts| cents(product(watts, price))).sum()
+}
+
+fn charges_of_nameplates() -> Vec<Named> {
+    vec![
+        (
+            "the exemption goes by the largest nameplate",
+            Rules {
+                shortfall: |terms, prices, billed| {
+                    let spared = largest_of(&terms.nameplates) <= u64::from(ASSISTED_FREE);
+                    match spared && terms.assisted == Assisted::Yes {
+                        true => 0,
+                        false => steps::shortfall(terms, prices, billed),
+                    }
+                },
+                ..RIGHT
+            },
+        ),
+        (
+            "standby is for a nameplate above 100,000 W",
+            Rules {
+                standby: |terms, prices| match largest_of(&terms.nameplates)
+                    > u64::from(STANDBY_FREE)
+                {
+                    true => steps::standby(terms, prices),
+                    false => 0,
+                },
+                ..RIGHT
+            },
+        ),
+        (
+            "standby prices the largest nameplate",
+            Rules {
+                standby: |terms, prices| {
+                    let largest = cents(product(largest_of(&terms.nameplates), prices.standby));
+                    steps::standby(terms, prices).min(largest)
+                },
+                ..RIGHT
+            },
+        ),
+        (
+            "standby is rounded by nameplate",
+            Rules {
+                standby: |terms, prices| match steps::standby(terms, prices) {
+                    0 => 0,
+                    _ => rounded_each(terms, prices.standby),
+                },
+                ..RIGHT
+            },
+        ),
+        (
+            "bypass prices the largest nameplate",
+            Rules {
+                bypass: |terms, prices| {
+                    let largest = cents(product(largest_of(&terms.nameplates), prices.bypass));
+                    steps::bypass(terms, prices).min(largest)
+                },
+                ..RIGHT
+            },
+        ),
+        (
+            "bypass is rounded by nameplate",
+            Rules {
+                bypass: |terms, prices| match terms.rider {
+                    Rider::Banked => 0,
+                    Rider::Bridge => rounded_each(terms, prices.bypass),
+                },
+                ..RIGHT
+            },
+        ),
+    ]
+}
+
+/// With 0 in the places past the count.
+fn cleared(mut account: Account) -> Account {
+    let nameplates = &mut account.terms.nameplates;
+    let count = nameplates.each().len();
+    nameplates.places[count..].fill(0);
+    account
+}
+
+fn accounts_with_nameplates() -> Vec<Named> {
+    vec![
+        (
+            "an opening clears what stands past the count",
+            Rules {
+                after: |_, call, after| match call {
+                    Call::Opening { .. } => cleared(after),
+                    _ => after,
+                },
+                ..RIGHT
+            },
+        ),
+        (
+            "an opening keeps the total alone",
+            Rules {
+                after: |before, call, mut after| {
+                    if matches!(call, Call::Opening { .. }) && before.state == State::Fresh {
+                        after.terms.nameplates = wrapped_at_64(&after.terms.nameplates);
+                    }
+                    after
+                },
+                ..RIGHT
+            },
+        ),
+        (
+            "a refused opening leaves its nameplates behind",
+            Rules {
+                after: |before, call, mut after| {
+                    if let (Call::Opening { terms, .. }, true) = (call, after == *before) {
+                        after.terms.nameplates = terms.nameplates;
+                    }
+                    after
+                },
+                ..RIGHT
+            },
+        ),
+        (
+            "a bill clears what stands past the count",
+            Rules {
+                after: |_, call, after| match call {
+                    Call::Billing { .. } => cleared(after),
+                    _ => after,
+                },
+                ..RIGHT
+            },
+        ),
+        (
+            "a closing clears what stands past the count",
+            Rules {
+                after: |_, call, after| match call {
+                    Call::Closing => cleared(after),
                     _ => after,
                 },
                 ..RIGHT

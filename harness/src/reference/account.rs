@@ -35,12 +35,53 @@ pub enum Assisted {
     Yes,
 }
 
+/// Places for nameplates (02, No. 3).
+pub const MOST_NAMEPLATES: usize = 8;
+
+/// 02, No. 3: a count, which may be any number, and eight places of W. The nameplates are the
+/// first places, as many as the count says; no rule looks at what stands past them.
+#[derive(Clone, Copy, Debug, Default, PartialEq, Eq)]
+pub struct Nameplates {
+    pub count: u64,
+    pub places: [u64; MOST_NAMEPLATES],
+}
+
+impl Nameplates {
+    pub const fn one(watts: u64) -> Nameplates {
+        Nameplates {
+            count: 1,
+            places: [watts, 0, 0, 0, 0, 0, 0, 0],
+        }
+    }
+
+    /// One to eight, with 0 past them; nothing where there are none or more.
+    pub fn of(watts: &[u64]) -> Option<Nameplates> {
+        let mut places = [0; MOST_NAMEPLATES];
+        places.get_mut(..watts.len())?.copy_from_slice(watts);
+        (!watts.is_empty()).then_some(Nameplates {
+            count: watts.len() as u64,
+            places,
+        })
+    }
+
+    /// The nameplates; all eight places where the count is above eight.
+    pub fn each(&self) -> &[u64] {
+        let count = usize::try_from(self.count).unwrap_or(usize::MAX);
+        &self.places[..count.min(MOST_NAMEPLATES)]
+    }
+
+    /// Eight numbers of 64 bits don't fit 64.
+    pub fn total(&self) -> u128 {
+        self.each().iter().map(|&watts| u128::from(watts)).sum()
+    }
+}
+
 /// Powers are in W.
 #[derive(Clone, Copy, Debug, Default, PartialEq, Eq)]
 pub struct Terms {
     pub rider: Rider,
     pub class: Class,
-    pub nameplate: u32,
+    pub nameplates: Nameplates,
     pub demand_limit: u32,
     pub assisted: Assisted,
 }

@@ -1,6 +1,6 @@
 //! 01, "When the office declines": the conditions, and their order for each call.
 
-use super::account::{Account, Class, PriceList, Rider, State, Terms};
+use super::account::{Account, Class, PriceList, Rider, State, Terms, MOST_NAMEPLATES};
 use super::calendar::{days_in_month, LAST_MONTH};
 use super::gaps::LOST;
 use super::hours::{count_critical_days, register_length};
@@ -11,9 +11,9 @@ pub const MOST_CARRIED: u64 = 4_000_000_000_000;
 pub const MOST_STANDING: u64 = 4_000_000_000_000;
 /// Refusal 4: the largest price, and the largest basic and minimum.
 pub const LARGEST_PRICE: u32 = 1_000_000;
-/// Refusal 5: largest nameplate of a home, W.
+/// Refusal 5: largest total of a home's nameplates, W.
 pub const LARGEST_HOME: u32 = 20_000;
-/// Refusal 5: largest nameplate of a business, W.
+/// Refusal 5: largest total of a business's nameplates, W.
 pub const LARGEST_BUSINESS: u32 = 1_000_000;
 /// Refusal 9: most critical days in a month.
 pub const MOST_CRITICAL_DAYS: usize = 10;
@@ -33,6 +33,8 @@ pub enum Refusal {
     CriticalDays = 9,
     Reading = 10,
     BookFull = 11,
+    /// 02, No. 3.
+    Nameplates = 12,
     /// 02, No. 4.
     FirstReadingLost = 13,
 }
@@ -51,7 +53,7 @@ fn first(checks: &[(bool, Refusal)]) -> Option<Refusal> {
         .map(|&(_, refusal)| refusal)
 }
 
-/// Order 2, 3, 4, 5, 6, 7.
+/// Order 2, 3, 4, 12, 5, 6, 7.
 pub fn of_opening(
     account: &Account,
     terms: &Terms,
@@ -62,6 +64,7 @@ pub fn of_opening(
         (account.state == State::Open, Refusal::OpenAlready),
         (is_closed(account), Refusal::Closed),
         (breaks_price_list(price_list), Refusal::PriceList),
+        (breaks_nameplates(terms), Refusal::Nameplates),
         (breaks_capacity(terms), Refusal::Capacity),
         (breaks_bridge(terms), Refusal::NoBridge),
         (first_month > LAST_MONTH, Refusal::Month),
@@ -128,6 +131,7 @@ pub fn is_impossible(account: &Account) -> bool {
         || account.standing > MOST_STANDING
         || account.next_month > LAST_MONTH + 1;
     let bad_contents = breaks_price_list(&account.price_list)
+        || breaks_nameplates(&account.terms)
         || breaks_capacity(&account.terms)
         || breaks_bridge(&account.terms);
     past_bounds || (account.state == State::Open && bad_contents)
@@ -163,13 +167,22 @@ fn breaks_price_list(list: &PriceList) -> bool {
     too_large || rising
 }
 
-/// Refusal 5: 1 W up to the demand limit and up to the class's limit.
+/// Refusal 12 (02, No. 3): none or more than eight.
+fn breaks_nameplates(terms: &Terms) -> bool {
+    let count = terms.nameplates.count;
+    count == 0 || count > MOST_NAMEPLATES as u64
+}
+
+/// Refusal 5: each nameplate is at least 1 W, and the total goes up to the demand limit and up
+/// to the class's limit (02, No. 3).
 fn breaks_capacity(terms: &Terms) -> bool {
     let class_limit = match terms.class {
         Class::Home => LARGEST_HOME,
         Class::Business => LARGEST_BUSINESS,
     };
-    terms.nameplate < 1 || terms.nameplate > terms.demand_limit || terms.nameplate > class_limit
+    let too_small = terms.nameplates.each().iter().any(|&watts| watts < 1);
+    let total = terms.nameplates.total();
+    too_small || total > u128::from(terms.demand_limit) || total > u128::from(class_limit)
 }
 
 /// Refusal 6: the bridge rider is for homes.

@@ -1,6 +1,8 @@
 //! 01, "Day view and statement": the whole text that the program prints.
 
-use super::account::{Account, Answer, Assisted, Bill, ByPeriod, Class, PriceList, Rider, Terms};
+use super::account::{
+    Account, Answer, Assisted, Bill, ByPeriod, Class, Nameplates, PriceList, Rider, Terms,
+};
 use super::calendar::month_number;
 use super::calls::{billing, opening};
 
@@ -50,7 +52,7 @@ fn read_opening(reader: &mut Reader) -> Result<(Terms, PriceList, u32), Fault> {
     let terms = Terms {
         rider: reader.take("rider", rider)?,
         class: reader.take("class", class)?,
-        nameplate: reader.take("nameplate", number)?,
+        nameplates: reader.take("nameplate", nameplates)?,
         demand_limit: reader.take("limit", number)?,
         assisted: reader.take("assisted", assisted)?,
     };
@@ -203,10 +205,20 @@ fn number(text: &[u8]) -> Option<u32> {
     u32::try_from(value).ok()
 }
 
+/// Any count of numbers with commas between.
+fn list(text: &[u8]) -> Option<Vec<u32>> {
+    text.split(|&byte| byte == b',').map(number).collect()
+}
+
 /// Exactly so many numbers with commas between.
 fn numbers<const COUNT: usize>(text: &[u8]) -> Option<[u32; COUNT]> {
-    let numbers: Option<Vec<u32>> = text.split(|&byte| byte == b',').map(number).collect();
-    numbers?.try_into().ok()
+    list(text)?.try_into().ok()
+}
+
+/// 02, No. 3: one to eight numbers with commas between.
+fn nameplates(text: &[u8]) -> Option<Nameplates> {
+    let watts: Vec<u64> = list(text)?.into_iter().map(u64::from).collect();
+    Nameplates::of(&watts)
 }
 
 pub fn rider(text: &[u8]) -> Option<Rider> {

@@ -5,14 +5,16 @@ use crate::helpers::{
     FEBRUARY_2001, JANUARY_2000, JULY_2001, JUNE_2001, MAY_2001, OFF_PEAK, SUMMER_ON_PEAK,
     WINTER_ON_PEAK,
 };
-use harness::reference::account::{Account, Assisted, Bill, Closing, PriceList, State, Terms};
+use harness::reference::account::{
+    Account, Assisted, Bill, Closing, Nameplates, PriceList, State, Terms,
+};
 use harness::reference::calls::{billing, closing, opening, repricing};
 
 /// A bridge account with every price, and 10 cents standing.
 fn bridge_account() -> Account {
     Account {
         terms: Terms {
-            nameplate: 8_001,
+            nameplates: Nameplates::one(8_001),
             ..bridge_home()
         },
         price_list: PriceList {
@@ -101,7 +103,7 @@ fn money_over_stays_standing() {
 fn the_same_month_banked() {
     let account = Account {
         terms: Terms {
-            nameplate: 8_001,
+            nameplates: Nameplates::one(8_001),
             ..home()
         },
         carried: [0, 0, 9_500, 1],
@@ -198,7 +200,7 @@ fn shortfall_at_its_turning_points() {
     };
     assert_eq!(shortfall_of(assisted, 1_400, 1_401), 0);
     let large = Terms {
-        nameplate: 8_001,
+        nameplates: Nameplates::one(8_001),
         ..assisted
     };
     assert_eq!(shortfall_of(large, 1_400, 1_401), 1);
@@ -269,7 +271,7 @@ fn the_largest_bill_fits() {
     // All prices at their limit, and everything carried, exported and standing.
     let account = Account {
         terms: Terms {
-            nameplate: 20_000,
+            nameplates: Nameplates::one(20_000),
             demand_limit: 20_000,
             ..bridge_home()
         },

@@ -1,6 +1,8 @@
 //! Accounts and registers to start from.
 
-use harness::reference::account::{Account, Assisted, Bill, Class, PriceList, Rider, State, Terms};
+use harness::reference::account::{
+    Account, Assisted, Bill, Class, Nameplates, PriceList, Rider, State, Terms,
+};
 use harness::reference::calls::billing;
 
 // Months by their number: 12 × (year − 2000) + (month of the year − 1).
@@ -32,7 +34,7 @@ pub fn home() -> Terms {
     Terms {
         rider: Rider::Banked,
         class: Class::Home,
-        nameplate: 8_000,
+        nameplates: Nameplates::one(8_000),
         demand_limit: 9_000,
         assisted: Assisted::No,
     }
@@ -57,7 +59,7 @@ pub fn bridge_home() -> Terms {
 pub fn business(nameplate: u32) -> Terms {
     Terms {
         class: Class::Business,
-        nameplate,
+        nameplates: Nameplates::one(u64::from(nameplate)),
         demand_limit: nameplate,
         ..home()
     }

@@ -11,6 +11,7 @@ mod gaps;
 mod hours;
 mod ledger;
 mod mistakes;
+mod nameplates;
 mod random_lists;
 mod refusals;
 mod statement;

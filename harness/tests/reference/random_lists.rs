@@ -21,6 +21,10 @@ fn random_numbers_depend_on_the_seed_alone() {
     assert_eq!(random.next_u64(), 3_203_168_211_198_807_973);
     assert_eq!(random.below(0), 0);
     assert!((0..1_000).all(|_| random.below(3) < 3));
+    // Numbers aside leave the next ones as they are, and are others.
+    let mut random = Random::new(1_234_567);
+    assert_ne!(random.aside().next_u64(), 6_457_827_717_110_365_317);
+    assert_eq!(random.next_u64(), 6_457_827_717_110_365_317);
 }
 
 #[test]
@@ -40,7 +44,7 @@ fn balances_hold_over_random_lists() {
             *was_shown |= is_shown;
         }
     }
-    assert_eq!(numbers_met, (0..=11).chain([13]).collect());
+    assert_eq!(numbers_met, (0..=13).collect());
     assert_eq!(shown, [true; 8]);
 }
 
@@ -83,7 +87,7 @@ fn any_account_answers_any_call() {
         }
     }
     let expected: BTreeSet<(u32, u32)> = [
-        (0, &[0, 2, 3, 4, 5, 6, 7][..]),
+        (0, &[0, 2, 3, 4, 5, 6, 7, 12][..]),
         (1, &[0, 1, 3, 4]),
         (2, &[0, 1, 3, 7, 8, 9, 10, 11, 13]),
         (3, &[0, 1, 3]),

@@ -5,7 +5,9 @@ use crate::helpers::{
     FEBRUARY_2000, FEBRUARY_2001, JANUARY_2000, LOST, MARCH_2001, MARCH_2006, MARCH_2007,
     NOVEMBER_2006, NOVEMBER_2007,
 };
-use harness::reference::account::{Account, Bill, Closing, PriceList, Rider, State, Terms};
+use harness::reference::account::{
+    Account, Bill, Closing, Nameplates, PriceList, Rider, State, Terms,
+};
 use harness::reference::calls::{billing, closing, opening, repricing};
 
 // The number that each call answers. A refusal must return zeros and the account
@@ -142,11 +144,11 @@ fn refusal_3_contents_where_open() {
     };
     let with_terms = |terms| Account { terms, ..open() };
     let no_nameplate = Terms {
-        nameplate: 0,
+        nameplates: Nameplates::one(0),
         ..home()
     };
     let past_limit = Terms {
-        nameplate: 9_001,
+        nameplates: Nameplates::one(9_001),
         ..home()
     };
     let bridge_business = Terms {
@@ -235,7 +237,7 @@ fn refusal_4_energy_prices_do_not_rise() {
 fn refusal_5_nameplate() {
     let opened_with = |terms: Terms, nameplate, demand_limit| {
         let terms = Terms {
-            nameplate,
+            nameplates: Nameplates::one(nameplate),
             demand_limit,
             ..terms
         };
@@ -255,7 +257,7 @@ fn refusal_5_nameplate() {
         assert_eq!(opened_with(terms, 19_999, u32::MAX), 0);
         assert_eq!(opened_with(terms, 20_000, u32::MAX), 0);
         assert_eq!(opened_with(terms, 20_001, u32::MAX), 5);
-        assert_eq!(opened_with(terms, u32::MAX, u32::MAX), 5);
+        assert_eq!(opened_with(terms, u64::MAX, u32::MAX), 5);
     }
     assert_eq!(opened_with(business(1), 999_999, u32::MAX), 0);
     assert_eq!(opened_with(business(1), 1_000_000, u32::MAX), 0);
@@ -515,8 +517,11 @@ fn order_of_an_openings_refusals() {
     account = fresh();
     assert_eq!(opened(account, terms, list, month), 4);
     list = prices();
+    terms.nameplates.count = 9;
+    assert_eq!(opened(account, terms, list, month), 12);
+    terms.nameplates.count = 1;
     assert_eq!(opened(account, terms, list, month), 5);
-    terms.nameplate = 1;
+    terms.nameplates = Nameplates::one(1);
     terms.demand_limit = 1;
     assert_eq!(opened(account, terms, list, month), 6);
     terms.rider = Rider::Banked;

@@ -589,6 +589,81 @@ fn lists_have_exactly_their_numbers() {
     }
 }
 
+// 02, No. 3: one to eight nameplates.
+
+#[test]
+fn nameplates_are_one_to_eight() {
+    let with = |value: &str| opening_with(4, &format!("nameplate={value}"));
+    // The limit is 9,000 W.
+    for (readable, answer) in [
+        ("9000", 0),
+        ("4500,4500", 0),
+        ("4500,4501", 5),
+        ("1,1,1", 0),
+        ("1125,1125,1125,1125,1125,1125,1125,1125", 0),
+        ("1125,1125,1125,1125,1125,1125,1125,1126", 5),
+        ("0,8000", 5),
+        ("8000,0", 5),
+        ("1,1,1,1,0,1,1,1", 5),
+        ("0,0", 5),
+        ("4294967295,2", 5),
+        ("4294967295,1,8000", 5),
+        ("2147483648,2147483648", 5),
+        ("4294967295,4294967295", 5),
+    ] {
+        assert_printed(with(readable), &format!("open={answer}\n"));
+    }
+    for unreadable in [
+        "",
+        ",",
+        ",8000",
+        "8000,",
+        "1000,,1000",
+        "1,1,1,1,1,1,1,1,",
+        "1,1,1,1,1,1,1,,1",
+        "1,1,1,1,1,1,1,1,1",
+        "1,1,1,1,1,1,1,1,1,1,1,1,1,1,1,1",
+        "1000, 1000",
+        "1000;1000",
+        "1000,4294967296",
+        "1000,00000001000",
+        "1000,x",
+    ] {
+        assert_printed(with(unreadable), "line=4\n");
+    }
+}
+
+#[test]
+fn the_longest_line_that_is_readable() {
+    // Ten digits each: 10 + 8 × 10 + 7 bytes.
+    let longest = format!("nameplate={}", ["0000001125"; 8].join(","));
+    assert_eq!(longest.len(), 97);
+    assert_printed(opening_with(4, &longest), "open=0\n");
+    for more in ["0", ",", "\r", " "] {
+        let longer = format!("{longest}{more}");
+        assert_printed(opening_with(4, &longer), "line=4\n");
+    }
+}
+
+#[test]
+fn nameplates_are_charged_by_their_total() {
+    // 8,001 W at 50,000 are 400 cents of bypass; an assisted home of this size pays the
+    // shortfall, 2,200 less 1,400.
+    let roofs = opening_with(4, "nameplate=5000,3001")
+        .replace("rider=banked", "rider=bridge")
+        .replace("assisted=no", "assisted=yes")
+        .replace("bypass=0", "bypass=50000")
+        .replace("minimum=0", "minimum=2200");
+    let month = "bill=2001-02\ncritical=0\nrun=2688,0,0\n";
+    let printed = |due: &str| format!("open=0\n{}", idle("2001-02").replace("due=1400", due));
+    assert_printed(roofs.clone() + month, &printed("due=2600"));
+    let smaller = roofs.replace("5000,3001", "5000,3000");
+    assert_printed(smaller + month, &printed("due=1800"));
+    // The same bytes as those of one nameplate.
+    let one = roofs.replace("5000,3001", "8001");
+    assert_printed(one + month, &printed("due=2600"));
+}
+
 #[test]
 fn words_are_exact() {
     for (line, text) in [

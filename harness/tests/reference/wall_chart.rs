@@ -3,7 +3,7 @@
 use crate::helpers::{
     bill, bridge_home, business, home, open_account, Registers, JULY_2001, JUNE_2001, OFF_PEAK,
 };
-use harness::reference::account::{Account, Assisted, PriceList, Terms};
+use harness::reference::account::{Account, Assisted, Nameplates, PriceList, Terms};
 use harness::reference::calendar::{days_in_month, weekday, Weekday};
 use harness::reference::hours::{Day, Period};
 use harness::reference::steps::{cents, granted, share, shortfall, standby};
@@ -54,9 +54,9 @@ fn shortfall_of(terms: Terms) -> u64 {
     shortfall(&terms, &prices, &[0, 60_000, 40_000, 0])
 }
 
-fn assisted(nameplate: u32) -> Terms {
+fn assisted(nameplate: u64) -> Terms {
     Terms {
-        nameplate,
+        nameplates: Nameplates::one(nameplate),
         assisted: Assisted::Yes,
         ..bridge_home()
     }
@@ -83,7 +83,7 @@ fn i_and_j_standby() {
     assert_eq!(standby(&business(100_001), &prices), 17_235);
     // Not for a home, though none of this size can be opened.
     let large_home = Terms {
-        nameplate: 100_001,
+        nameplates: Nameplates::one(100_001),
         ..home()
     };
     assert_eq!(standby(&large_home, &prices), 0);

@@ -41,6 +41,9 @@ numbers-in-requires c κs = search needs
 numbers-in-requires-2 : tie.Need-numbers-in-requires-2
 numbers-in-requires-2 c κs = search needs
 
+numbers-up-to-requires : tie.Need-numbers-up-to-requires
+numbers-up-to-requires c κs = search needs
+
 number-in-requires : tie.Need-number-in-requires
 number-in-requires c κs = search needs
 
@@ -63,10 +66,13 @@ returns-6 : tie.Need-returns-6
 returns-6 c = rw (c .before .match .keys6) (c .numbers-in2 .ensures)
 
 returns-7 : tie.Need-returns-7
-returns-7 c =
+returns-7 c = rw (c .before .match .keys7) (c .numbers-up-to .ensures)
+
+returns-8 : tie.Need-returns-8
+returns-8 c =
     let past = c .before .match .rest in
-    let some = next 2 (next 1 (next 0 (omega arith) (past .0 .0 .0 .0 .0 .1)) (past .0 .0 .0 .0 .1)) (past .0 .0 .0 .1) in
-    let number = next 5 (next 4 (next 3 some (past .0 .0 .1)) (past .0 .1)) (past .1) in
+    let some = next 2 (next 1 (next 0 (omega arith) (past .0 .0 .0 .0 .0 .0 .1)) (past .0 .0 .0 .0 .0 .1)) (past .0 .0 .0 .0 .1) in
+    let number = next 6 (next 5 (next 4 (next 3 some (past .0 .0 .0 .1)) (past .0 .0 .1)) (past .0 .1)) (past .1) in
     rw (value-number _ _ number) (c .number-in .ensures)
 
 pub value-in-spec : {M : Type 1} → statement M
@@ -85,6 +91,7 @@ value-in-spec =
     choice-in-requires-3
     numbers-in-requires
     numbers-in-requires-2
+    numbers-up-to-requires
     number-in-requires
     returns
     returns-2
@@ -92,4 +99,5 @@ value-in-spec =
     returns-4
     returns-5
     returns-6
-    returns-7)
+    returns-7
+    returns-8)

@@ -1,4 +1,4 @@
--- `ledger::answer_record` answers a record that is a call of eighteen numbers.
+-- `ledger::answer_record` answers a record that is a call of a record's length.
 use mathlib.Core.Path.{sym, _∙_}
 use borrow.Author.Tests.{eq-eqb, ne-eqb}
 use Rattle.ledger.specs.Encoding.{answeredOf}

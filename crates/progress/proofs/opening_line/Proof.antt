@@ -6,6 +6,7 @@ use Rattle.lines.specs.Statement.{outcome, opened}
 use Rattle.progress.specs.Progressing.{stateOf}
 use Rattle.progress.proofs.Lines.{quiet, ends-by}
 use Rattle.progress.proofs.Opening.{line-kept}
+use Rattle.lines.proofs.Opening.{line-few}
 use Rattle.lines.proofs.Laws.{opening-no, opening-more, opening-last}
 use borrow.Author.Needs.{needs}
 use Rattle.progress.proofs.opening_line.Statement.{statement}
@@ -27,7 +28,10 @@ returns c = λ d e.
     ends-by _ _ _ _ _ _ _ (opening-no v _ (c .before .before .before .before .before .before .opening-line .ensures) (stateOf (st .args .progress) d e) (c .before .before .before .before .if1 .taken)) (c .before .before .fault-at .ensures d e)
 
 with-values-requires : tie.Need-with-values-requires
-with-values-requires c κs = search needs
+with-values-requires c κs =
+    let st = c .before .before .before .before .before .before in
+    let k = st .args .progress .expected in
+    (st .pre .0, rw (c .before .before .before .opening-line .ensures) (line-few k (st .args .line .now) (st .pre .0)))
 
 add-next : tie.Need-add-next
 add-next c = search needs

@@ -28,18 +28,21 @@ array-read-t7 c = search needs
 cast-t15 : tie.Need-cast-t15
 cast-t15 c = search needs
 
-array-read-t18 : tie.Need-array-read-t18
-array-read-t18 c = search needs
+nameplates-of-requires : tie.Need-nameplates-of-requires
+nameplates-of-requires c κs = search needs
 
-cast-t19 : tie.Need-cast-t19
-cast-t19 c = search needs
+array-read-t20 : tie.Need-array-read-t20
+array-read-t20 c = search needs
 
-array-read-t22 : tie.Need-array-read-t22
-array-read-t22 c = search needs
+cast-t21 : tie.Need-cast-t21
+cast-t21 c = search needs
+
+array-read-t24 : tie.Need-array-read-t24
+array-read-t24 c = search needs
 
 returns : tie.Need-returns
 unfolding openingTerms
-returns c = rw (rider-is (c .before), class-is c)
+returns c = rw (rider-is (c .before .before), class-is (c .before), c .nameplates-of .ensures)
 
 pub terms-of-spec : {M : Type 1} → statement M
 terms-of-spec =
@@ -49,7 +52,8 @@ terms-of-spec =
     array-read-if2
     array-read-t7
     cast-t15
-    array-read-t18
-    cast-t19
-    array-read-t22
+    nameplates-of-requires
+    array-read-t20
+    cast-t21
+    array-read-t24
     returns)

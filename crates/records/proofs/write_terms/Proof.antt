@@ -1,5 +1,6 @@
 -- `records::write_terms` lists the terms in their order, riders, classes and yes or no by their codes.
 use mathlib.Core.Path.{refl}
+use borrow.Author.Needs.{needs}
 use Rattle.records.specs.Sections.{termsNumbers}
 use Rattle.records.proofs.write_terms.Statement.{statement}
 use Rattle.records.proofs.write_terms.Tie as tie
@@ -9,6 +10,30 @@ rider-code-requires c κs = tt
 
 class-code-requires : tie.Need-class-code-requires
 class-code-requires c κs = tt
+
+array-read-t12 : tie.Need-array-read-t12
+array-read-t12 c = search needs
+
+array-read-t15 : tie.Need-array-read-t15
+array-read-t15 c = search needs
+
+array-read-t18 : tie.Need-array-read-t18
+array-read-t18 c = search needs
+
+array-read-t21 : tie.Need-array-read-t21
+array-read-t21 c = search needs
+
+array-read-t24 : tie.Need-array-read-t24
+array-read-t24 c = search needs
+
+array-read-t27 : tie.Need-array-read-t27
+array-read-t27 c = search needs
+
+array-read-t30 : tie.Need-array-read-t30
+array-read-t30 c = search needs
+
+array-read-t33 : tie.Need-array-read-t33
+array-read-t33 c = search needs
 
 yes-code-requires : tie.Need-yes-code-requires
 yes-code-requires c κs = tt
@@ -35,6 +60,14 @@ write-terms-spec =
     (tie.spec
     rider-code-requires
     class-code-requires
+    array-read-t12
+    array-read-t15
+    array-read-t18
+    array-read-t21
+    array-read-t24
+    array-read-t27
+    array-read-t30
+    array-read-t33
     yes-code-requires
     slice-aggregate-write-numbers
     write-numbers-requires

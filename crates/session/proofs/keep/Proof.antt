@@ -5,13 +5,14 @@ use native.Mathlib.Omega.{arith}
 use borrow.Author.Needs.{needs}
 use lib.ListN.{length, getD, take, length-set}
 use lib.Seq.{sets}
+use Rattle.lines.specs.Feeding.{keptBytes}
 use Rattle.session.proofs.Keeping.{stored-more, all-stored}
 use Rattle.session.proofs.keep.Statement.{statement}
 use Rattle.session.proofs.keep.Tie as tie
 
 abbrev Inv-loop : tie.InvT-loop
 Inv-loop held bytes start more next₀ place₀ next place =
-    (place ≤ more) × (length next ≡ 51) × (next ≡ sets next₀ start (take place bytes))
+    (place ≤ more) × (length next ≡ keptBytes) × (next ≡ sets next₀ start (take place bytes))
 
 abbrev μ-loop : tie.MeasureT-loop
 μ-loop held bytes start more next₀ place₀ next place = more - place

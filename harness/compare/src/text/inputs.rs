@@ -1,17 +1,18 @@
 //! What is fed to the program: the worked examples, one input with each line and byte
-//! changed in turn, runs of lost readings and of pairs, and random inputs, most of them
-//! damaged.
+//! changed in turn, lines of nameplates, runs of lost readings and of pairs, and random
+//! inputs, most of them damaged.
 
 use crate::show::{class_text, rider_text};
 use harness::generate;
 use harness::random::Random;
-use harness::reference::account::{Assisted, PriceList, Terms};
+use harness::reference::account::{Assisted, Nameplates, PriceList, Terms};
 use harness::reference::calendar::{month_of_year, year, LAST_MONTH};
 use harness::reference::gaps::LOST;
 use harness::reference::hours::register_length;
 use harness::reference::refusal::LARGEST_READING;
 use harness::reference::statement::MOST_READINGS;
 use std::collections::HashSet;
+use std::fmt::Display;
 use std::fs;
 use std::path::Path;
 
@@ -188,6 +189,77 @@ fn with_june(name: String, runs: &str) -> Input {
     }
 }
 
+/// The number of a line, from 1, and what stands there.
+type Numbered = (usize, &'static str);
+
+/// The base input with another line of nameplates, and these in the place of other lines.
+fn with_nameplates(value: &str, others: &[Numbered]) -> Input {
+    let mut lines: Lines = include_str!("base.in").lines().map(Into::into).collect();
+    lines[3] = format!("nameplate={value}").into();
+    for (number, line) in others {
+        lines[number - 1] = line.as_bytes().to_vec();
+    }
+    Input {
+        name: format!("nameplates {value} with {others:?}"),
+        bytes: joined(&lines),
+    }
+}
+
+/// Nameplates of any count, with a 0 or nothing in any place, with totals at each limit and
+/// past 32 bits, and in lines of up to 99 bytes, of which the longest readable one has 97.
+pub fn nameplates() -> Vec<Input> {
+    let mut inputs = Vec::new();
+    for count in 1..=10 {
+        let some = vec!["1000"; count];
+        inputs.push(with_nameplates(&some.join(","), &[]));
+        for place in 0..=count {
+            for other in ["0", "", "x"] {
+                let mut more = some.clone();
+                more.insert(place, other);
+                inputs.push(with_nameplates(&more.join(","), &[]));
+            }
+        }
+        let long = vec!["0000001000"; count].join(",");
+        for more in ["", "0", "00", ",", "\r", " ", "\0"] {
+            inputs.push(with_nameplates(&format!("{long}{more}"), &[]));
+            inputs.push(with_nameplates(&format!("{more}{long}"), &[]));
+        }
+    }
+    let limit = (5, "limit=4294967295");
+    let home = [(6, "assisted=yes"), limit];
+    let business = [(2, "rider=banked"), (3, "class=business"), limit];
+    let kinds: [(&[Numbered], &[u32]); 3] = [
+        (&[], &[9_000]),
+        (&home, &[8_000, 20_000]),
+        (&business, &[100_000, 1_000_000]),
+    ];
+    for (others, limits) in kinds {
+        for total in limits.iter().flat_map(|limit| limit - 1..=limit + 1) {
+            let rest = total - 7_000;
+            for value in [
+                format!("{},1", total - 1),
+                format!("1,{}", total - 1),
+                format!("1000,{rest},1000,1000,1000,1000,1000,1000"),
+            ] {
+                inputs.push(with_nameplates(&value, others));
+            }
+        }
+        for value in [
+            "4294967295,1",
+            "4294967295,2",
+            "4294967295,5001",
+            "2147483648,2147483648",
+            "2147483648,2147488648",
+            "4294967295,4294967295,4294967295,4294967295,4294967295,4294967295,4294967295,4294967295",
+            "4294967296,1",
+            "1,4294967296",
+        ] {
+            inputs.push(with_nameplates(value, others));
+        }
+    }
+    inputs
+}
+
 /// Runs of lost readings in one column or in both.
 pub fn gaps() -> Vec<Input> {
     let mut inputs = Vec::new();
@@ -324,12 +396,23 @@ fn month_text(month: u32) -> String {
 }
 
 /// A number, now and then with leading zeros.
-fn numeral(random: &mut Random, number: u32) -> String {
+fn numeral(random: &mut Random, number: impl Display) -> String {
     let width = match random.below(20) {
         0 => 1 + random.below(10) as usize,
         _ => 1,
     };
-    format!("{number:0width$}")
+    format!("{number:0>width$}")
+}
+
+/// So many nameplates as the count says, and nine where it is above eight. All but the first are
+/// written with numbers aside: the rest of a seed's input doesn't depend on how many there are.
+fn nameplates_text(random: &mut Random, nameplates: &Nameplates) -> String {
+    let mut aside = random.aside();
+    let first = numeral(random, nameplates.places[0]);
+    let rest = nameplates.places[1..].iter().chain([&1]);
+    let rest = rest.map(|watts| numeral(&mut aside, watts));
+    let all: Vec<String> = [first].into_iter().chain(rest).collect();
+    all[..all.len().min(nameplates.count as usize)].join(",")
 }
 
 /// An account and some months, mostly such as it accepts.
@@ -355,12 +438,13 @@ fn opening_lines(random: &mut Random, terms: &Terms, list: &PriceList, first_mon
         Assisted::Yes => "yes",
     };
     let energy = list.energy.map(|price| numeral(random, price)).join(",");
+    let nameplates = nameplates_text(random, &terms.nameplates);
     let mut number = |number| numeral(random, number);
     let values = [
         ("opens", month_text(first_month)),
         ("rider", rider_text(terms.rider).to_string()),
         ("class", class_text(terms.class).to_string()),
-        ("nameplate", number(terms.nameplate)),
+        ("nameplate", nameplates),
         ("limit", number(terms.demand_limit)),
         ("assisted", assisted.to_string()),
         ("prices", energy),

@@ -53,7 +53,8 @@ impl Session {
             session.compare(input, Feeding::Pieces(seed));
         }
         let changes = inputs::changes().into_iter();
-        let fixed = changes.chain(inputs::gaps()).chain(inputs::pairs());
+        let fixed = changes.chain(inputs::nameplates());
+        let fixed = fixed.chain(inputs::gaps()).chain(inputs::pairs());
         for input in fixed.chain(inputs::random(0, FIXED_RANDOM)) {
             session.compare_all(&input);
         }

@@ -111,6 +111,7 @@ pub const ALL: &[Wrong] = &[
         by_value(input, |key, value| match key {
             b"prices" => first_items(value, 4),
             b"run" => first_items(value, 3),
+            b"nameplate" => first_items(value, 8),
             _ => first_items(value, 1),
         })
     }),
@@ -282,6 +283,76 @@ pub const ALL: &[Wrong] = &[
     }),
     ("a nameplate of 4294967295 is lost", |input| {
         with_line(input, b"nameplate=4294967295", b"nameplate=8000")
+    }),
+    // Nameplates.
+    ("only the first nameplate is read", |input| {
+        by_nameplates(input, |each| first_items(each, 1))
+    }),
+    ("one nameplate is all that can be read", |input| {
+        by_nameplates(input, |each| match items(each) {
+            1 => each.to_vec(),
+            _ => UNREADABLE.to_vec(),
+        })
+    }),
+    ("eight nameplates are unreadable", |input| {
+        by_nameplates(input, |each| match items(each) {
+            8 => UNREADABLE.to_vec(),
+            _ => each.to_vec(),
+        })
+    }),
+    ("nine nameplates are read as eight", |input| {
+        by_nameplates(input, |each| match items(each) {
+            9 => first_items(each, 8),
+            _ => each.to_vec(),
+        })
+    }),
+    ("nine nameplates are refused by 12", |input| {
+        refused_by_12(input, |each| items(each) == 9)
+    }),
+    ("no nameplate is refused by 12", |input| {
+        refused_by_12(input, <[u8]>::is_empty)
+    }),
+    ("a 0 among nameplates is unreadable", |input| {
+        by_nameplates(input, |each| {
+            match each.split(|&byte| byte == b',').any(|item| item == b"0") {
+                true => UNREADABLE.to_vec(),
+                false => each.to_vec(),
+            }
+        })
+    }),
+    ("a 0 among nameplates is skipped", |input| {
+        with_some_nameplates(input, |item| item != b"0")
+    }),
+    ("an empty nameplate is skipped", |input| {
+        with_some_nameplates(input, |item| !item.is_empty())
+    }),
+    ("nameplates are added up in 32 bits", |input| {
+        by_nameplates(input, |each| {
+            let text = std::str::from_utf8(each).unwrap_or_default();
+            let numbers: Option<Vec<u32>> = text.split(',').map(number).collect();
+            match numbers.filter(|numbers| numbers.len() <= 8 && !numbers.contains(&0)) {
+                Some(numbers) => {
+                    let sum = numbers.into_iter().fold(0, u32::wrapping_add);
+                    sum.to_string().into_bytes()
+                }
+                None => each.to_vec(),
+            }
+        })
+    }),
+    ("no line has more than 50 bytes", |input| {
+        by_line(input, |line| match line.len() > 50 {
+            true => UNREADABLE.to_vec(),
+            false => line.to_vec(),
+        })
+    }),
+    ("no line has more than 96 bytes", |input| {
+        by_line(input, |line| match line.len() > 96 {
+            true => UNREADABLE.to_vec(),
+            false => line.to_vec(),
+        })
+    }),
+    ("a line is read up to byte 97", |input| {
+        by_line(input, |line| line[..line.len().min(97)].to_vec())
     }),
     // Order of lines, and what each is for.
     ("rider and class in either order", |input| {
@@ -514,6 +585,42 @@ fn by_number(input: &[u8], change: impl Fn(&[u8]) -> Vec<u8>) -> Vec<u8> {
         true => change(item),
         false => item.to_vec(),
     })
+}
+
+/// With the nameplates of their line changed.
+fn by_nameplates(input: &[u8], change: impl Fn(&[u8]) -> Vec<u8>) -> Vec<u8> {
+    by_value(input, |key, value| match key {
+        b"nameplate" => change(value),
+        _ => value.to_vec(),
+    })
+}
+
+/// With some nameplates left out; where none is left, with all.
+fn with_some_nameplates(input: &[u8], is_kept: fn(&[u8]) -> bool) -> Vec<u8> {
+    by_nameplates(input, |each| {
+        let parts = each.split(|&byte| byte == b',');
+        let kept: Vec<&[u8]> = parts.filter(|part| is_kept(part)).collect();
+        match kept.is_empty() {
+            true => each.to_vec(),
+            false => kept.join(&b','),
+        }
+    })
+}
+
+/// With nameplates that are unreadable read, and refused by 12.
+fn refused_by_12(input: &[u8], is_read: fn(&[u8]) -> bool) -> Vec<u8> {
+    let mut is_found = false;
+    let printed = by_value(input, |key, value| match key {
+        b"nameplate" if is_read(value) => {
+            is_found = true;
+            b"0".to_vec()
+        }
+        _ => value.to_vec(),
+    });
+    match is_found {
+        true => replaced(&printed, &[("open=5", "open=12")]),
+        false => printed,
+    }
 }
 
 /// With one line read as another.
