@@ -1,5 +1,7 @@
 // The account of document 01: opening, repricing, billing and closing. Each call takes the account as it is and hands it back
 // with the answer; a refusal has its number, zeros in every amount, and the account as it came.
+#![tactic(auto)]
+
 ghost use Rattle.std.specs.Prelude.{◌≡◌, ◌||◌, ◌≤◌};
 ghost use Rattle.calendar.specs.Calendar.{last_month};
 ghost use Rattle.account.specs.Refusals.{is_fresh, is_open, is_closed};
@@ -16,7 +18,7 @@ use tariff::{Class, PriceList, Rider, Terms};
 // The month after December 2099, which is next once that has been billed.
 const HIGHEST_NEXT: u32 = 1200;
 
-#[derive(Drop)]
+#[derive(Clone, Copy)]
 pub enum Stage {
     Fresh,
     Open,
@@ -24,7 +26,7 @@ pub enum Stage {
 }
 
 // Carried Wh by period and standing money in cents; next is the month that is billed next.
-#[derive(Drop)]
+#[derive(Clone, Copy)]
 pub struct Account {
     pub stage: Stage,
     pub terms: Terms,
@@ -35,27 +37,27 @@ pub struct Account {
 }
 
 // What a closing returns: the Wh that it forfeits, by period, and the cents that it refunds.
-#[derive(Drop)]
+#[derive(Clone, Copy)]
 pub struct ClosingAmounts {
     pub forfeited: ByPeriod,
     pub refunded: u64,
 }
 
 // The answer to an opening or a repricing.
-#[derive(Drop)]
+#[derive(Clone, Copy)]
 pub struct Reply {
     pub number: u32,
     pub account: Account,
 }
 
-#[derive(Drop)]
+#[derive(Clone, Copy)]
 pub struct BillingReply {
     pub number: u32,
     pub bill: Bill,
     pub account: Account,
 }
 
-#[derive(Drop)]
+#[derive(Clone, Copy)]
 pub struct ClosingReply {
     pub number: u32,
     pub amounts: ClosingAmounts,

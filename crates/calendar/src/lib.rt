@@ -1,24 +1,26 @@
 // The calendar of document 01: months numbered from January 2000, their days, weekdays, seasons, and the readings of a day
 // and of a month, with the change of the clocks that request 1 adds. Every function is defined for every number: months past December
 // 2099 follow the same rules.
+#![tactic(auto)]
+
 ghost use Rattle.std.specs.Prelude.{◌≡◌, cond, eqb};
 ghost use Rattle.calendar.specs.Calendar.{year_of, month_of_year, is_leap, leap_day, days_in, first_weekday, weekday_of, day_kind_of, season_of};
 ghost use Rattle.calendar.specs.Calendar.{Changes, length_by, day_length, quarter_by, readings_through, month_length};
 
-#[derive(Drop)]
+#[derive(Clone, Copy)]
 pub enum Season {
     Winter,
     Summer,
 }
 
-#[derive(Drop)]
+#[derive(Clone, Copy)]
 pub enum DayKind {
     Weekday,
     Weekend,
 }
 
 // What the clocks do on a day: on one in March they are put forward from 02:00 to 03:00, on one in November back from 02:00 to 01:00.
-#[derive(Drop)]
+#[derive(Clone, Copy)]
 pub enum Clock {
     Unchanged,
     Forward,
@@ -26,7 +28,7 @@ pub enum Clock {
 }
 
 // A day of a month, and what the clocks do on it; on all others they do nothing.
-#[derive(Drop)]
+#[derive(Clone, Copy)]
 pub struct Change {
     pub day: u32,
     pub clock: Clock,

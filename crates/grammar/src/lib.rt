@@ -1,4 +1,6 @@
 // The lines that `statement` reads: what each gives in numbers, or none where it is unreadable.
+#![tactic(auto)]
+
 ghost use Rattle.std.specs.Prelude.{◌≡◌};
 ghost use Rattle.numerals.specs.Reading.{numbers_as};
 ghost use Rattle.grammar.specs.Grammar.{begins_with, is_text, choice_in, keyed};

@@ -1,4 +1,6 @@
 // The hours of document 01: the schedule, the critical days, and the period of a quarter-hour; and schedules that are lent (02 No. 7).
+#![tactic(auto)]
+
 ghost use Rattle.std.specs.Prelude.{◌≡◌, true, ◌+◌, ◌<◌, ◌≤◌, length, get_or};
 ghost use Rattle.calendar.specs.Calendar.{season_of, day_kind_of};
 ghost use Rattle.hours.specs.CriticalDays.{is_critical, critical_count, past_last_day, critical_refused};
@@ -33,7 +35,7 @@ const MOST_CRITICAL_DAYS: u32 = 10;
 const ALL_BITS: u32 = 0xffff_ffff;
 
 // Four amounts, one for each period.
-#[derive(Drop)]
+#[derive(Clone, Copy)]
 pub struct ByPeriod {
     pub critical: u64,
     pub onpeak: u64,
@@ -42,7 +44,7 @@ pub struct ByPeriod {
 }
 
 // What decides the periods of a day: where its row starts in a schedule, and whether it is critical.
-#[derive(Drop)]
+#[derive(Clone, Copy)]
 pub struct DayHours {
     pub row: usize,
     pub critical: bool,

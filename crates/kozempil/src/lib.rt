@@ -1,4 +1,6 @@
 // The interface for C and Rust. include/kozempil.h says what each number of each buffer is.
+#![tactic(auto)]
+
 ghost use Rattle.std.specs.Prelude.{◌≡◌, cond, ◌<◌, ◌^◌, length, get_or};
 ghost use Rattle.std.proofs.lemmas.List.Edits.{sets};
 ghost use Rattle.calendar.specs.Calendar.{month_length};
@@ -67,7 +69,7 @@ fn write_account(buffer: &mut [u64], account: Account)
 
 // How many calls of a list are answered, and how many rows of answers are written whole.
 #[repr(C)]
-#[derive(Drop)]
+#[derive(Clone, Copy)]
 pub struct Counts {
     pub answered: u64,
     pub written: u64,

@@ -1,4 +1,6 @@
 // A list of calls from any account: every answer, and the last account.
+#![tactic(auto)]
+
 ghost use Rattle.std.specs.Prelude.{◌≡◌, true, length};
 ghost use Rattle.records.specs.Records.{record_length, is_call};
 ghost use Rattle.balances.specs.Calls.{opening, repricing, billing, closing};
@@ -11,7 +13,7 @@ use records::Answer;
 use tariff::{PriceList, Terms};
 
 // The answer to one record, and the account after it; known is false where the record is no call.
-#[derive(Drop)]
+#[derive(Clone, Copy)]
 pub struct Answered {
     pub known: bool,
     pub account: Account,
@@ -19,7 +21,7 @@ pub struct Answered {
 }
 
 // The account after a list of calls, how many calls are answered, and how many rows of answers are written whole.
-#[derive(Drop)]
+#[derive(Clone, Copy)]
 pub struct Ran {
     pub account: Account,
     pub answered: u64,
@@ -27,7 +29,7 @@ pub struct Ran {
 }
 
 // An answer, and the account after it.
-#[derive(Drop)]
+#[derive(Clone, Copy)]
 struct Step {
     account: Account,
     answer: Answer,

@@ -1,4 +1,6 @@
 // Loads a schedule from a text.
+#![tactic(auto)]
+
 ghost use Rattle.std.specs.Prelude.{◌≡◌, cond, ◌+◌, ◌≤◌, ◌<◌, length};
 ghost use Rattle.loading.specs.Loading.{load_number, table_after};
 ghost use Rattle.loading.specs.Reading.{PeriodsRead, LineRead, LinesRead};

@@ -1,4 +1,6 @@
 // Numbers and months as `statement` reads them: what a text gives in numbers, or none where it is unreadable.
+#![tactic(auto)]
+
 ghost use Rattle.std.specs.Prelude.{◌≡◌, [], ◌∷◌, ◌+◌, ◌<◌, ◌^◌};
 ghost use Rattle.numerals.specs.Numerals.{number_in, month_in, numbers_in, numbers_up_to};
 ghost use Rattle.numerals.specs.Reading.{numbers_as};
@@ -14,7 +16,7 @@ const MOST_DIGITS: usize = 10;
 const MONTH_LENGTH: usize = 7;
 
 // How many numbers a text has, and the first eight of them, 0 where there are fewer. A text that can't be read has none.
-#[derive(Drop)]
+#[derive(Clone, Copy)]
 pub struct Numbers {
     pub count: usize,
     pub first: u32,

@@ -1,4 +1,6 @@
 // The texts that `statement` prints, written to a lent buffer.
+#![tactic(auto)]
+
 ghost use Rattle.std.specs.Prelude.{◌≡◌, ◌+◌, ◌≤◌, length};
 ghost use Rattle.printing.specs.Text.{digits, most_digits, decimal, filled_in, most_bytes};
 ghost use Rattle.printing.specs.Printing.{bill_text, open_text, line_text};

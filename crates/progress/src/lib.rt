@@ -1,4 +1,6 @@
 // A line of `statement` is read: the progress and the registers after it, and its text.
+#![tactic(auto)]
+
 ghost use Rattle.std.specs.Prelude.{◌≡◌, true, ◌-◌, ◌≤◌, ◌<◌, min, length, replicate};
 ghost use Rattle.std.proofs.lemmas.List.Edits.{sets};
 ghost use Rattle.grammar.specs.Grammar.{opening_line, bill_line, critical_line, run_line};
@@ -95,7 +97,7 @@ const NEWLINE: u8 = 10;
 const MOST_READINGS: usize = 2976;
 
 // What the lines so far have given. The month's readings stand at the front of two registers that the caller lends.
-#[derive(Drop)]
+#[derive(Clone, Copy)]
 pub struct Progress {
     lines: u64,
     expected: u32,
@@ -107,21 +109,21 @@ pub struct Progress {
 }
 
 // The progress after a line, and where its text ends.
-#[derive(Drop)]
+#[derive(Clone, Copy)]
 pub struct Ended {
     pub progress: Progress,
     pub at: usize,
 }
 
 // The progress after the run lines at the front of an input, and how many bytes they have.
-#[derive(Drop)]
+#[derive(Clone, Copy)]
 pub struct Ran {
     pub progress: Progress,
     pub taken: usize,
 }
 
 // A run line at the front of an input: its bytes with its newline, its readings, and what each of them is. No bytes where there is none to take.
-#[derive(Drop)]
+#[derive(Clone, Copy)]
 struct Run {
     bytes: usize,
     count: usize,

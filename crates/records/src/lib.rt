@@ -1,5 +1,7 @@
 // What a call's record says, and the numbers of an answer's row. A section of a record or row, as terms or a price list, is read and
 // written from any place on.
+#![tactic(auto)]
+
 ghost use Rattle.std.specs.Prelude.{◌≡◌, ◌+◌, min, get_or, set};
 ghost use Rattle.std.proofs.lemmas.List.Edits.{sets};
 ghost use Rattle.tariff.specs.Tariff.{eight_at};
@@ -69,7 +71,7 @@ pub const ROW: usize = 1 + 11 * 4 + LINES_LENGTH + 4 + 1;
 pub const LIMIT_32: u64 = 0x1_0000_0000;
 
 // The answer to one call: its number and every amount, 0 in those that the call doesn't return.
-#[derive(Drop)]
+#[derive(Clone, Copy)]
 pub struct Answer {
     pub number: u32,
     pub bill: Bill,

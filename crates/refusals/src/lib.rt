@@ -1,11 +1,13 @@
 // The table of refusals of document 01, with row 12 of 02 No. 3 and row 13 of 02 No. 4: the number that each call is given, or 0.
+#![tactic(auto)]
+
 ghost use Rattle.std.specs.Prelude.{◌≡◌};
 ghost use Rattle.refusals.specs.Table.{first_of, contents_rows, opening_row, repricing_row, billing_row, closing_row};
 
 use tariff::{PriceList, Terms};
 
 // What is wrong with the registers and the critical days of a billing: whether rows 8, 9, 10 and 13 apply.
-#[derive(Drop)]
+#[derive(Clone, Copy)]
 pub struct Faults {
     pub wronglength: bool,
     pub wrongdays: bool,

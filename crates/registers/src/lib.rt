@@ -1,4 +1,6 @@
 // What a bill reads from a register, and the day view. Registers are lent and only read.
+#![tactic(auto)]
+
 ghost use Rattle.std.specs.Prelude.{◌≡◌, cond, ◌||◌, ◌+◌, ◌%◌, ◌<◌, ◌≤◌, max, eqb, ltb, length};
 ghost use Rattle.calendar.specs.Calendar.{days_in, clock_of, day_length, readings_through, month_length};
 ghost use Rattle.hours.specs.Hours.{is_peak, period_on_day};
@@ -20,7 +22,7 @@ pub const MONTH_LIMIT: u64 = calendar::MOST_READINGS as u64 * READING_LIMIT as u
 
 // All that a bill reads from one register: whether its length is wrong, a reading above the limit or the first one lost, the sums by
 // period, and the power in W that the demand line prices.
-#[derive(Drop)]
+#[derive(Clone, Copy)]
 pub struct Tally {
     pub wronglength: bool,
     pub abovelimit: bool,
@@ -31,7 +33,7 @@ pub struct Tally {
 
 // What the readings so far come to: sums by period, the largest sum of a pair that counts, whether a reading is above the limit, and what the
 // last one counts as, or 0.
-#[derive(Drop)]
+#[derive(Clone, Copy)]
 struct Count {
     critical: u64,
     onpeak: u64,

@@ -1,4 +1,6 @@
 // `statement` fed with bytes as they come.
+#![tactic(auto)]
+
 ghost use Rattle.std.specs.Prelude.{◌≡◌, true, [], ◌≤◌, min, length, take};
 ghost use Rattle.printing.specs.Writing.{has_room, Wrote};
 ghost use Rattle.lines.specs.Statement.{line_read};
@@ -20,14 +22,14 @@ const NEWLINE: u8 = 10;
 // The progress of the lines so far, and how many bytes are held of the line that isn't complete yet. They stand at the front of a buffer that
 // the caller lends, and the month's readings at the front of two registers: lend the same ones at each call, as the call before left them.
 // Lend at least 2,048 bytes for texts: with fewer `feed` takes nothing.
-#[derive(Drop)]
+#[derive(Clone, Copy)]
 pub struct Session {
     held: usize,
     progress: Progress,
 }
 
 // A session after bytes, how many it took, and how many bytes of text it wrote.
-#[derive(Drop)]
+#[derive(Clone, Copy)]
 pub struct Fed {
     pub session: Session,
     pub taken: usize,
@@ -35,7 +37,7 @@ pub struct Fed {
 }
 
 // The buffer for the line that isn't complete yet, and how many bytes are held there.
-#[derive(Drop)]
+#[derive(Clone, Copy)]
 struct Kept {
     line: [u8; KEPT_BYTES],
     held: usize,

@@ -1,4 +1,6 @@
 // Step 4 of document 01: credit moves to the need of cheaper periods.
+#![tactic(auto)]
+
 ghost use Rattle.std.specs.Prelude.{◌≡◌};
 ghost use Rattle.sharing.specs.Moving.{Moving, InTurn};
 ghost use Rattle.sharing.specs.Sharing.{shared_of};
@@ -6,7 +8,7 @@ ghost use Rattle.sharing.specs.Sharing.{shared_of};
 use hours::ByPeriod;
 
 // What moved out of each credit and into each need, the credit still unspent, and the need still unmet, which is billed.
-#[derive(Drop)]
+#[derive(Clone, Copy)]
 pub struct Shared {
     pub out: ByPeriod,
     pub into: ByPeriod,
@@ -15,7 +17,7 @@ pub struct Shared {
 }
 
 // One move: what is moved, and what the credit and the need still have.
-#[derive(Drop)]
+#[derive(Clone, Copy)]
 struct Moved {
     moved: u64,
     credit: u64,
@@ -23,7 +25,7 @@ struct Moved {
 }
 
 // The six moves, each named by the number of the credit's period and that of the need's.
-#[derive(Drop)]
+#[derive(Clone, Copy)]
 struct SixMoves {
     m01: Moved,
     m02: Moved,

@@ -1,5 +1,7 @@
 // What the program `statement` does with descriptors: feeds a session with what it reads, writes what that prints, and says how it ended. What a
 // command line names, messages and the exit status are left to a program in C above it.
+#![tactic(auto)]
+
 ghost use Rattle.std.specs.Prelude.{◌≡◌, true, ◌≤◌, length, get_or, take};
 ghost use Rattle.lines.specs.Feeding.{ending};
 ghost use Rattle.session.specs.Sessions.{lent, so_far_of};
@@ -27,7 +29,7 @@ const OPENING_NUMBER: usize = 5;
 const MONTH_NUMBER: usize = 20;
 
 // Where what is printed goes, and how: lines as they are, or as tables; and whether refusals are explained to the errors.
-#[derive(Drop)]
+#[derive(Clone, Copy)]
 struct Telling {
     output: i32,
     errors: i32,
@@ -36,14 +38,14 @@ struct Telling {
 }
 
 // Where a line of a text ends, and where the next one begins.
-#[derive(Drop)]
+#[derive(Clone, Copy)]
 struct Line {
     end: usize,
     next: usize,
 }
 
 // The status after a text, and whether it could not be written.
-#[derive(Drop)]
+#[derive(Clone, Copy)]
 struct Told {
     status: u32,
     failed: bool,
@@ -51,7 +53,7 @@ struct Told {
 
 // A session after bytes, the status after their texts, whether these could not be written, and whether there is a point in reading on: they could,
 // and no fault has stopped it.
-#[derive(Drop)]
+#[derive(Clone, Copy)]
 struct Given {
     session: Session,
     status: u32,
@@ -60,7 +62,7 @@ struct Given {
 }
 
 // What one read brought: so many bytes, none at the end of the input, or a failure.
-#[derive(Drop)]
+#[derive(Clone, Copy)]
 struct Got {
     bytes: usize,
     failed: bool,

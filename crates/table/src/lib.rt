@@ -1,4 +1,6 @@
 // What the options of `statement` show of a printed line, with its newline or without: a table, an explanation.
+#![tactic(auto)]
+
 ghost use Rattle.std.specs.Prelude.{◌≡◌, true, ◌+◌, ◌*◌, ◌≤◌, ◌<◌, length, drop, take};
 ghost use Rattle.numerals.specs.Numerals.{is_digit};
 ghost use Rattle.printing.specs.Writing.{Wrote, PutIn};
@@ -74,14 +76,14 @@ const REASON_BEGINS: [usize; 27] = [
 ];
 
 // The next number of a line, and where the rest of the line begins.
-#[derive(Drop)]
+#[derive(Clone, Copy)]
 struct Found {
     value: u64,
     next: usize,
 }
 
 // A number in a column: so many bytes of it, the last of which has so many of the number after it.
-#[derive(Drop)]
+#[derive(Clone, Copy)]
 struct Shown {
     value: u64,
     width: usize,

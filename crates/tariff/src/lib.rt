@@ -1,4 +1,6 @@
 // Terms and price lists of document 01, with the nameplates of 02 No. 3, and the refusals that they alone decide.
+#![tactic(auto)]
+
 ghost use Rattle.std.specs.Prelude.{◌≡◌, ◌||◌, [], ◌∷◌, ◌+◌, ◌-◌, ◌^◌, min};
 ghost use Rattle.tariff.specs.Tariff.{price_limit, amount_limit, some_over, prices_rise, prices_refused, most_nameplates, nameplates_refused};
 ghost use Rattle.tariff.specs.Tariff.{total_nameplate, class_limit, some_below_one, capacity_limit, capacity_refused, bridge_refused};
@@ -7,13 +9,13 @@ ghost use Rattle.tariff.specs.Tariff.{is_banked, is_bridge, is_business};
 use hours::ByPeriod;
 
 // The banked rider (Rider NM) and the bridge rider (Rider NMB).
-#[derive(Drop)]
+#[derive(Clone, Copy)]
 pub enum Rider {
     Banked,
     Bridge,
 }
 
-#[derive(Drop)]
+#[derive(Clone, Copy)]
 pub enum Class {
     Home,
     Business,
@@ -25,7 +27,7 @@ pub const MOST_NAMEPLATES: usize = 8;
 // Terms of an account. The first places have its nameplates, as many as the count says; what stands past them is no nameplate. They are in W, and
 // so is the demand limit: the estimated largest demand of a home, the contract demand of a business. An assisted customer whose
 // total is at most 8,000 W pays no shortfall.
-#[derive(Drop)]
+#[derive(Clone, Copy)]
 pub struct Terms {
     pub rider: Rider,
     pub class: Class,
@@ -36,7 +38,7 @@ pub struct Terms {
 }
 
 // Prices are in hundred-thousandths of a dollar per kWh or per k_w, basic and minimum in cents. Bypass is the non-bypassable charge.
-#[derive(Drop)]
+#[derive(Clone, Copy)]
 pub struct PriceList {
     pub energy: ByPeriod,
     pub demand: u64,

@@ -1,4 +1,6 @@
 // The statement of a whole input.
+#![tactic(auto)]
+
 ghost use Rattle.std.specs.Prelude.{◌≡◌, ◌+◌, ◌≤◌, min, length, take};
 ghost use Rattle.std.proofs.lemmas.List.Edits.{sets};
 ghost use Rattle.lines.specs.Statement.{last_number, statement_of};
@@ -16,7 +18,7 @@ const PIECE_BYTES: usize = 65536;
 const CHUNK_BYTES: usize = 4096;
 
 // A session after bytes, how many it took, and where the text that follows goes.
-#[derive(Drop)]
+#[derive(Clone, Copy)]
 struct Fed {
     session: Session,
     taken: usize,
