@@ -4,15 +4,8 @@ use borrow.Author.Rules.{rules}
 use mathlib.Core.Path.{refl, ◌∙◌}
 use Rattle.hours.specs.Hours.{fixed_schedule, windows, window_period, is_on_peak}
 use Rattle.hours.specs.Packing.{byte_at, entry_of, unpacked}
-use Rattle.hours.proofs.fixed_schedule.Statement.{statement}
-use Rattle.hours.proofs.fixed_schedule.Tie as tie
+use Rattle.hours.proofs.fixed_schedule.Goals as goal
 
-unpack-requires : tie.Need-unpack-requires
-unpack-requires c κs = search rules
-
-returns : tie.Need-returns
+pub returns : goal.returns
 unfolding fixed_schedule windows window_period is_on_peak byte_at entry_of unpacked
 returns c = c.unpack.ensures ∙ refl
-
-pub fixed-schedule-spec : {M : Type 1} → statement M
-fixed-schedule-spec = tie.close (tie.spec unpack-requires returns)

@@ -1,0 +1,14 @@
+-- `hours::past_last_day` masks the bits past the month's last day.
+use borrow.Author.Rules.{rules}
+use native.Mathlib.Omega.{arith}
+use Rattle.calendar.proofs.Laws.{days_in-le}
+use Rattle.hours.specs.CriticalDays.{past_last_day}
+use Rattle.hours.proofs.Days.{after_mask}
+use Rattle.hours.proofs.past_last_day.Goals as goal
+
+pub overflow_shl-past : goal.overflow_shl-past
+overflow_shl-past c = omega (arith, days_in-le c.args.month)
+
+pub returns : goal.returns
+unfolding past_last_day
+returns c = rw c.days_in-past.ensures (after_mask _ _ (omega (arith, days_in-le c.args.month)))

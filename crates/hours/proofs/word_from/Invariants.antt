@@ -1,0 +1,16 @@
+use mathlib.Core.Path.{◌≡◌, refl, sym, ◌∙◌}
+use Prim.Native.Nat.{◌+◌, ◌-◌, ◌*◌, ◌^◌, ◌≤◌, ◌<◌}
+use native.Mathlib.Nat.{add-zero}
+use lib.ListN.{get_or}
+use native.Mathlib.Omega.{arith}
+use borrow.Author.Rules.{rules}
+use Rattle.hours.specs.Schedules.{word_from}
+use Rattle.hours.proofs.Packed.{entry_within, word_fits, word_more}
+use Rattle.hours.proofs.word_from.Given as goal
+
+-- The word has the entries behind those that are left.
+abbrev pub invariant-loop-left : goal.invariant-loop-left
+invariant-loop-left l = (l.left ≤ 32) × (l.word ≡ word_from l.schedule (l.first + l.left) (32 - l.left))
+
+abbrev pub decreases-loop-left : goal.decreases-loop-left
+decreases-loop-left l = l.left
