@@ -1,0 +1,155 @@
+-- `registers::count_stretch` adds a day's readings pair by pair: `Counting` has the step.
+use mathlib.Core.Path.{◌≡◌, refl}
+use Prim.Native.Nat.{ℕ, ◌≤◌, ◌<◌, ◌-◌, ◌+◌, ◌%◌}
+use native.Mathlib.Omega.{arith}
+use borrow.Author.Rules.{rules}
+use lib.ListN.{length}
+use Rattle.calendar.specs.Calendar.{season_of, day_kind_of, quarter_of}
+use Rattle.calendar.proofs.Laws.{days_in-le, day_length-le, quarter_of-lt, quarter_of-is}
+use Rattle.hours.proofs.Laws.{row_start-le, period_is}
+use Rattle.registers.specs.Counting.{DayCounted}
+use Rattle.registers.proofs.Counting.{pair_step, in_month, room}
+use Rattle.registers.proofs.count_stretch.Goals as goal
+use Rattle.registers.proofs.count_stretch.Goals.{In-loop-place}
+
+-- Both readings of a pair are before the stretch's end, since it has no half of one.
+whole : (c : In-loop-place) → c.loop-place.place + 1 < c.args.to
+whole c = omega (arith, c.requires.from_value.1)
+
+-- The places of both readings are within the register.
+inside : (c : In-loop-place) →
+    c.args.start + (c.loop-place.place + 1)
+    < length c.args.register.now
+inside c =
+    let st = c.before.before.before.before.before in
+    omega (
+      arith,
+      st.requires,
+      in_month st.args.schedule.now st.args.month st.args.critical_days st.args.register.now st.args.before
+          (c.loop-place.place + 1 + 1)
+          st.requires.before_bound
+          (omega (arith, whole c, st.requires.to_bound)),
+    )
+
+-- The quarter that the code asks for is that of the reading.
+quarter : (c : In-loop-place) (p : ℕ) → c.loop-place.place ≤ p → p < c.args.to →
+    c.quarter_by-first_quarter.result + (p - c.args.from)
+    ≡ quarter_of c.args.month (c.args.before + 1) p
+quarter c p l h =
+    let st = c.before.before.before.before.before in
+    let each = st.requires.follows.each p (omega (arith, c.loop-place.invariant.0)) h in
+    quarter_of-is _ _ _ st.requires.clock_value (omega (arith, each, c.quarter_by-first_quarter.ensures))
+
+-- So that of the second reading follows that of the first.
+next-quarter : (c : In-loop-place) →
+    c.quarter_by-first_quarter.result + (c.loop-place.place - c.args.from) + 1
+    ≡ quarter_of c.args.month (c.args.before + 1) (c.loop-place.place + 1)
+next-quarter c = omega (arith, quarter c (c.loop-place.place + 1) (omega arith) (whole c), c.loop-place.invariant.0)
+
+-- The places of both quarters are within the schedule.
+in_row : (c : In-loop-place) →
+    c.day_hours-day_hours.result.row
+    + (c.quarter_by-first_quarter.result + (c.loop-place.place - c.args.from) + 1) < 384
+in_row c =
+    let st = c.before.before.before.before.before in
+    omega (
+      arith,
+      c.day_hours-day_hours.ensures.0,
+      row_start-le (season_of st.args.month) (day_kind_of st.args.month (st.args.before + 1)),
+      next-quarter c,
+      quarter_of-lt st.args.month (st.args.before + 1) (c.loop-place.place + 1) (omega (arith, whole c, st.requires.to_bound)),
+    )
+
+pub overflow_add-day : goal.overflow_add-day
+overflow_add-day c = omega (arith, days_in-le c.args.month)
+
+pub overflow_cast-from : goal.overflow_cast-from
+overflow_cast-from c = let st = c in
+    omega (arith, st.requires, day_length-le st.args.month (st.args.before + 1))
+
+pub loop-place-init : goal.loop-place-init
+loop-place-init c = let st = c in
+    (omega arith, omega (arith, st.requires.follows.some), st.requires.from_value.0, st.requires.day_counted)
+
+pub overflow_sub-quarter : goal.overflow_sub-quarter
+overflow_sub-quarter c = omega arith
+
+pub overflow_add-quarter : goal.overflow_add-quarter
+overflow_add-quarter c = omega (arith, in_row (goal.at.overflow_add-quarter c).In-loop-place)
+
+pub overflow_add-entry : goal.overflow_add-entry
+overflow_add-entry c = omega (arith, in_row (goal.at.overflow_add-entry c).In-loop-place)
+
+pub bounds-schedule-row : goal.bounds-schedule-row
+bounds-schedule-row c = omega (arith, in_row (goal.at.bounds-schedule-row c).In-loop-place)
+
+pub overflow_add-next_entry : goal.overflow_add-next_entry
+overflow_add-next_entry c = omega (arith, in_row (goal.at.overflow_add-next_entry c).In-loop-place)
+
+pub overflow_add-next_entry-in-loop-place : goal.overflow_add-next_entry-in-loop-place
+overflow_add-next_entry-in-loop-place c = omega (arith, in_row (goal.at.overflow_add-next_entry-in-loop-place c).In-loop-place)
+
+pub bounds-schedule-row-in-loop-place : goal.bounds-schedule-row-in-loop-place
+bounds-schedule-row-in-loop-place c = in_row (goal.at.bounds-schedule-row-in-loop-place c).In-loop-place
+
+pub overflow_add-reading : goal.overflow_add-reading
+overflow_add-reading c = omega (arith, inside (goal.at.overflow_add-reading c).In-loop-place)
+
+pub offset_bounds-register-start : goal.offset_bounds-register-start
+offset_bounds-register-start c = omega (arith, inside (goal.at.offset_bounds-register-start c).In-loop-place)
+
+pub bounds-register-start : goal.bounds-register-start
+bounds-register-start c = omega (arith, inside (goal.at.bounds-register-start c).In-loop-place)
+
+pub overflow_add-next : goal.overflow_add-next
+overflow_add-next c = omega (arith, whole (goal.at.overflow_add-next c).In-loop-place)
+
+pub overflow_add-next-in-loop-place : goal.overflow_add-next-in-loop-place
+overflow_add-next-in-loop-place c = omega (arith, inside (goal.at.overflow_add-next-in-loop-place c).In-loop-place)
+
+pub offset_bounds-register-start-in-loop-place : goal.offset_bounds-register-start-in-loop-place
+offset_bounds-register-start-in-loop-place c = omega (arith, inside (goal.at.offset_bounds-register-start-in-loop-place c).In-loop-place)
+
+pub bounds-register-start-in-loop-place : goal.bounds-register-start-in-loop-place
+bounds-register-start-in-loop-place c = inside (goal.at.bounds-register-start-in-loop-place c).In-loop-place
+
+pub add_pair-so_far-requires : goal.add_pair-so_far-requires
+add_pair-so_far-requires c = let lp = c in
+    let st = lp in
+    room
+    _ _ _ _
+    (λ i. omega (arith, c.shared_slice_known-in-loop-place-2-1.given i))
+    _ _ _
+    lp.loop-place.invariant.3
+    st.requires.before_bound
+    (omega (arith, st.requires.to_bound))
+
+pub overflow_add-place : goal.overflow_add-place
+overflow_add-place c = omega (arith, inside (goal.at.overflow_add-place c).In-loop-place)
+
+pub loop-place-smaller : goal.loop-place-smaller
+loop-place-smaller c = omega arith
+
+pub loop-place-preserved : goal.loop-place-preserved
+loop-place-preserved c = let il = c in
+    let lp = il in
+    let st = lp in
+    let told = lp.day_hours-day_hours.ensures in (
+      omega arith,
+      omega (arith, whole (goal.at.loop-place-preserved c).In-loop-place),
+      omega (arith, lp.loop-place.invariant.2),
+      pair_step
+          _ _ _ _ _
+          lp.loop-place.place
+          _ _
+          st.requires.start_value
+          lp.loop-place.invariant.2
+          (period_is _ _ _ _ _ told.0 told.1 (quarter (goal.at.loop-place-preserved c).In-loop-place lp.loop-place.place (omega arith) (omega arith)) refl)
+          (period_is _ _ _ _ _ told.0 told.1 (next-quarter (goal.at.loop-place-preserved c).In-loop-place) refl)
+          lp.loop-place.invariant.3
+          c.add_pair-so_far.ensures,
+    )
+
+pub returns : goal.returns
+returns c = let e : c.loop-place.place ≡ c.args.to = omega arith in
+    rw e at c.loop-place.invariant.3
