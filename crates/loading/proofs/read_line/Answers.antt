@@ -1,0 +1,22 @@
+-- `loading::read_line` reads digits after the key of a row: `Reading` has why.
+use mathlib.Core.Path.{sym, ◌∙◌}
+use borrow.Author.Tests.{not-true, not-false}
+use Rattle.loading.proofs.Reading.{line_long, line_other, line_digits}
+use borrow.Author.Rules.{rules}
+use Rattle.loading.proofs.read_line.Goals as goal
+
+pub returns-then-line : goal.returns-then-line
+returns-then-line c = line_long _ _ _ _ c.requires.row_bound c.if-line.true
+
+pub returns-then-not-begins_with : goal.returns-then-not-begins_with
+returns-then-not-begins_with c = let key = c in
+    let start = key in
+    line_other _ _ _ _ start.requires.row_bound (sym key.begins_with.ensures ∙ c.if-not-begins_with.true)
+
+pub returns : goal.returns
+returns c = let read = c in
+    let tested = read in
+    let key = tested in
+    let long = key in
+    let begins = sym key.begins_with.ensures ∙ not-false _ tested.if-not-begins_with.false in
+    line_digits _ _ _ _ long.requires.row_bound begins long.if-line.false read.read_periods.ensures

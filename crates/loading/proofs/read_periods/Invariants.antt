@@ -1,0 +1,18 @@
+use mathlib.Core.Path.{◌≡◌, refl, ◌∙◌}
+use mathlib.Core.List.{map}
+use Prim.Native.Nat.{◌+◌, ◌-◌, ◌≤◌}
+use native.Mathlib.Nat.{add-zero}
+use native.Mathlib.Omega.{arith}
+use lib.ListN.{length, drop, length-set}
+use lib.Seq.{sets}
+use Rattle.loading.specs.Loading.{all_period_digits}
+use Rattle.loading.proofs.Periods.{digits_next, digits_low, digits_high}
+use Rattle.loading.proofs.Reading.{store_next, periods_bad, periods_all}
+use Rattle.loading.proofs.read_periods.Given as goal
+
+abbrev pub invariant-loop-place : goal.invariant-loop-place
+invariant-loop-place l = (l.place ≤ length l.digits) × (length l.entries ≡ length l.first) × (all_period_digits l.digits ≡ all_period_digits (drop l.place l.digits))
+    × (sets l.entries (l.initial.entries + l.place) (map (λ b. b - 48) (drop l.place l.digits)) ≡ sets l.first l.initial.entries (map (λ b. b - 48) l.digits))
+
+abbrev pub decreases-loop-place : goal.decreases-loop-place
+decreases-loop-place l = length l.digits - l.place
