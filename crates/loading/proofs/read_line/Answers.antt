@@ -18,5 +18,5 @@ returns c = let read = c in
     let tested = read in
     let key = tested in
     let long = key in
-    let begins = sym key.begins_with.ensures ∙ not-false _ tested.if-not-begins_with.false in
+    let begins = sym key.begins_with.ensures ∙ tested.if-not-begins_with.false in
     line_digits _ _ _ _ long.requires.row_bound begins long.if-line.false read.read_periods.ensures

@@ -1,0 +1,6 @@
+-- `printing::has_room` asks `fits`.
+use borrow.Author.Rules.{rules}
+use Rattle.printing.proofs.has_room.Goals as goal
+
+pub returns : goal.returns
+returns c = c.fits.ensures

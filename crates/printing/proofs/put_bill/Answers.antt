@@ -1,0 +1,14 @@
+-- `printing::put_bill` fills in the line's template.
+use borrow.Author.Rules.{rules}
+use Rattle.printing.proofs.Laws.{bill_most, bill_line_lem}
+use Rattle.printing.proofs.put_bill.Goals as goal
+
+pub put_text-requires : goal.put_text-requires
+put_text-requires c = bill_most
+
+pub returns : goal.returns
+returns c = let call = c in
+    let month = call in
+    let args = month.args in
+    bill_line_lem args.month args.number args.bill month.year-year.ensures month.month_of_year-of_year.ensures
+    call.put_text.ensures
