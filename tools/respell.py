@@ -73,7 +73,8 @@ def renamings():
     for path in listed("crates/*/src/**/*.rt"):
         for line in read(path).splitlines():
             words |= {t for t in TOKEN.findall(parted(line, "//")[0]) if t[0] != '"' and CAMEL.fullmatch(t)}
-    new = {n: snake(n) for n in words if CAMEL.fullmatch(n) and n not in known}
+    # Texts that go over several lines are not told from code; in ours only the unit kW looks like a name.
+    new = {n: snake(n) for n in words - {"kW"} if CAMEL.fullmatch(n) and n not in known}
     definitions = set(new.values()) | {n for n in declared if re.fullmatch(r"[a-z][a-z0-9_]*", n)}
     heads = set(new.values()) | {n for n in known if re.fullmatch(r"[a-z][a-z0-9_]*", n)}
     for name in sorted(w for w in words if DASHED.fullmatch(w) and w not in known):

@@ -322,6 +322,6 @@ none_expected s r input h e =
     running_none s s r r input 0 (running_start s s r input refl e) (not-expected (take (length input - 0) (drop 0 input)) s h)
 
 -- The later progress stands for the state.
-pub ran_to : (before s t : State) (r q : Registers) (input : List ℕ) (taken : ℕ) → t ≡ s → RunsRead before r input taken s q
+pub ran_to_lem : (before s t : State) (r q : Registers) (input : List ℕ) (taken : ℕ) → t ≡ s → RunsRead before r input taken s q
     → RunsRead before r input taken t q
-ran_to before s t r q input taken e w = subst (λ (x : State). RunsRead before r input taken x q) (sym e) w
+ran_to_lem before s t r q input taken e w = subst (λ (x : State). RunsRead before r input taken x q) (sym e) w

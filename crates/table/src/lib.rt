@@ -456,7 +456,7 @@ fn put_text(
     let rows =
         b"the account was never opened; repair the opening; its number is in the first line printed\
         an amount above 1,000,000, or an energy price above the one before; correct lines 7 to 14\
-        a nameplate of 0, or a total above line 5, 20 k_w (home), or 1,000 k_w (business); correct line 4 or 5\
+        a nameplate of 0, or a total above line 5, 20 kW (home), or 1,000 kW (business); correct line 4 or 5\
         a business under the bridge rider; make it a home, or take the banked rider\
         a first month after December 2099; open earlier\
         not the month that is next; bill the months in order, each once, from line 1's month on\

@@ -9,7 +9,7 @@ use Rattle.tariff.specs.declared.Class.TheVariants.{Home, Business}
 use Rattle.tariff.specs.declared.Terms.{Terms}
 use Rattle.tariff.specs.declared.PriceList.{PriceList}
 
--- "each of these nine at most 1,000,000": a price, in hundred-thousandths of a dollar per kWh or per k_w.
+-- "each of these nine at most 1,000,000": a price, in hundred-thousandths of a dollar per kWh or per kW.
 abbrev pub price_limit : ℕ
 price_limit = 1000000
 

@@ -37,7 +37,7 @@ pub struct Terms {
     pub assisted: bool,
 }
 
-// Prices are in hundred-thousandths of a dollar per kWh or per k_w, basic and minimum in cents. Bypass is the non-bypassable charge.
+// Prices are in hundred-thousandths of a dollar per kWh or per kW, basic and minimum in cents. Bypass is the non-bypassable charge.
 #[derive(Clone, Copy)]
 pub struct PriceList {
     pub energy: ByPeriod,

@@ -1,0 +1,16 @@
+-- `progress::count` changes the number alone.
+use Rattle.lines.specs.Statement.{counted}
+use borrow.Author.Rules.{rules}
+use Rattle.progress.proofs.count.Reads as reads
+use Rattle.progress.proofs.count.Lts as lts
+use Rattle.progress.proofs.next_number.Reads as next-number-reads
+use Rattle.progress.proofs.count.Goals as goal
+
+-- src/lib.rt:61:5
+pub next_number-requires : goal.next_number-requires
+next_number-requires c = search rules
+
+-- src/lib.rt:57:1
+pub returns : goal.returns
+unfolding counted
+returns c = λ d e. rw c.next_number.ensures

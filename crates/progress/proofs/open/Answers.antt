@@ -1,0 +1,12 @@
+-- `progress::open` opens the account and prints its number.
+use Rattle.progress.specs.Progressing.{state_of}
+use Rattle.progress.proofs.Opening.{account_opens}
+use borrow.Author.Rules.{rules}
+use Rattle.progress.proofs.open.Goals as goal
+
+pub returns : goal.returns
+returns c =
+    λ d e.
+    let st = c in
+    account_opens st.args.out.now st.args.at _ _ (state_of st.args.progress d e) _ c.account_reply-reply.ensures st.requires
+    c.put_open-end.ensures

@@ -1,0 +1,12 @@
+use mathlib.Core.Path.{◌∙◌, sym}
+use Prim.Native.Nat.{◌-◌}
+use native.Mathlib.Omega.{arith}
+use lib.ListN.{length, drop}
+use Rattle.table.proofs.Numbers.{Reading, read_none, read_digit, read_other, read_end, read_all}
+use Rattle.table.proofs.next_number.Given as goal
+
+abbrev pub invariant-loop-place : goal.invariant-loop-place
+invariant-loop-place l = Reading (drop l.from l.line) l.value l.inside l.line l.place
+
+abbrev pub decreases-loop-place : goal.decreases-loop-place
+decreases-loop-place l = length l.line - l.place

@@ -1,0 +1,13 @@
+use mathlib.Core.Path.{◌≡◌, refl}
+use Prim.Native.Nat.{◌+◌, ◌-◌, ◌≤◌}
+use native.Mathlib.Omega.{arith}
+use lib.ListN.{length, drop, length-set}
+use lib.Seq.{sets}
+use Rattle.table.proofs.Writing.{bytes_next, bytes_all}
+use Rattle.table.proofs.put_bytes.Given as goal
+
+abbrev pub invariant-loop-place : goal.invariant-loop-place
+invariant-loop-place l = (length l.out ≡ length l.initial.out) × (l.place ≤ length l.bytes) × (l.end ≡ l.at + l.place) × (sets l.out l.end (drop l.place l.bytes) ≡ sets l.initial.out l.at l.bytes)
+
+abbrev pub decreases-loop-place : goal.decreases-loop-place
+decreases-loop-place l = length l.bytes - l.place

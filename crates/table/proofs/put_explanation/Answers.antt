@@ -1,0 +1,33 @@
+-- `table::put_explanation` chooses the template and the reason, and fills it in.
+use lib.Dec.{lit≤}
+use Rattle.table.proofs.Reasons.{row_within}
+use Rattle.printing.proofs.Writing.{put_none, put_wrote, room_for}
+use Rattle.table.proofs.Showing.{explanation_is, explanation_within}
+use borrow.Author.Rules.{rules}
+use mathlib.Core.Path.{ap}
+use mathlib.Core.Bool.{not}
+use Rattle.table.proofs.put_explanation.Goals as goal
+
+pub returns-then-not-fits : goal.returns-then-not-fits
+returns-then-not-fits c = put_none c.fits.ensures (ap not c.if-not-fits.true)
+
+pub put_text-requires : goal.put_text-requires
+put_text-requires c = let test = c in (
+  room_for _ _ _ test.fits.ensures (ap not test.if-not-fits.false),
+  lit≤ tt,
+  lit≤ tt,
+  explanation_within _ _ c.explanation_text-text.ensures,
+  row_within _ _ c.row_of-row.ensures,
+  lit≤ tt,
+)
+
+pub returns : goal.returns
+returns c = let call = c in
+    let row = call.row_of-row.ensures in
+    let text = call.explanation_text-text.ensures in
+    let refusal = call in
+    let kind = refusal in
+    let test = kind in
+    put_wrote test.fits.ensures (ap not test.if-not-fits.false)
+    (explanation_is _ kind.kind_of-kind.ensures kind.numbers_of-numbers.ensures refusal.refusal_of-refusal.ensures row 13 text
+    call.put_text.ensures)

@@ -1,0 +1,12 @@
+use Prim.Native.Nat.{◌-◌}
+use native.Mathlib.Omega.{arith}
+use lib.ListN.{length}
+use Rattle.table.specs.Filling.{marked_by}
+use Rattle.table.proofs.Filling.{Filling, starts, ends, room_mark, room_reason, room_byte, then_mark, then_reason, then_byte, marked_length}
+use Rattle.table.proofs.put_filled.Given as goal
+
+abbrev pub invariant-loop-place : goal.invariant-loop-place
+invariant-loop-place l = Filling (marked_by l.numbers l.width) l.reason l.template l.first l.initial.out l.at l.out l.end l.mark l.place
+
+abbrev pub decreases-loop-place : goal.decreases-loop-place
+decreases-loop-place l = length l.template - l.place
