@@ -55,4 +55,4 @@ store-requires-2 c = search rules
 pub returns : goal.returns
 returns c = let st = c in
     run_fits st.args.progress st.args.delivered.now st.args.received.now _ _ st.args.numbers.first st.args.numbers.second st.args.numbers.third
-    _ c.readings-arg-2-1.given.0 c.store-arg-2-1.given.1 c.readings-stored.ensures c.if-stored-more-gt-MOST_READINGS.false c.store.ensures c.store-2.ensures st.args.out.now st.args.at
+    _ c.readings-arg-2-1.given c.store-arg-2-1.given.0.1 c.readings-stored.ensures c.if-stored-more-gt-MOST_READINGS.false c.store.ensures c.store-2.ensures st.args.out.now st.args.at

@@ -23,8 +23,8 @@ pub loop-taken-init : goal.loop-taken-init
 loop-taken-init c = let args = c.args in
     let d = args.delivered.now in
     let e = args.received.now in
-    let long : length d ≡ 2976 = c.readings-arg-4-1.given.0 in
-    let wide : length e ≡ 2976 = c.readings-arg-2-1.given.0 in (
+    let long : length d ≡ 2976 = c.readings-arg-4-1.given in
+    let wide : length e ≡ 2976 = c.readings-arg-2-1.given in (
       omega (arith, c.readings-stored.ensures, long, wide),
       long,
       wide,
@@ -98,7 +98,7 @@ store-requires-in-loop-taken c = let run = c in
     let rest = take (length args.input.now - lp.taken) (drop lp.taken args.input.now) in
     let next = run.next_run-run in
     let some = c.if-run-eq0.false in
-    let long = c.store-arg-in-loop-taken-1.given.0.1 in record {
+    let long = c.store-arg-in-loop-taken-1.given.1 in record {
       from_le_to = omega arith;
       to_in_bounds = omega (arith, turn_fits lp.stored rest next.result next.ensures some, long);
     }
@@ -154,17 +154,17 @@ loop-taken-preserved c = let run = c in
     let e = lp.received in
     let s = ran_to x lp.number (take n d) (take n e) in (
       omega (arith, turn_fits lp.stored rest next.result next.ensures some),
-      omega (arith, made.auto.0, lp.invariant.1),
-      omega (arith, given.auto.0, lp.invariant.2),
+      omega (arith, made.auto.register, lp.invariant.1),
+      omega (arith, given.auto.register, lp.invariant.2),
       running_more (state_of x args.delivered.now args.received.now) s _ _ input lp.taken lp.invariant.3
-          (ran_to x number.result (take (n + next.result.count) made.new.0) (take (n + next.result.count) given.new.0))
-          (registers_of made.new.0 given.new.0) next.result.bytes
+          (ran_to x number.result (take (n + next.result.count) made.new.register) (take (n + next.result.count) given.new.register))
+          (registers_of made.new.register given.new.register) next.result.bytes
           (turn_expected x lp.number n d e rest expected lp.invariant.1 lp.invariant.2 lp.invariant.0 next.result next.ensures some)
           (turn_bytes n rest next.result next.ensures some)
           (turn_state x lp.number n d e rest expected lp.invariant.1 lp.invariant.2 lp.invariant.0 next.result next.ensures some
-          made.new.0 given.new.0 number.result made.ensures given.ensures number.ensures)
+          made.new.register given.new.register number.result made.ensures given.ensures number.ensures)
           (turn_registers x lp.number n d e rest expected lp.invariant.1 lp.invariant.2 lp.invariant.0 next.result next.ensures some
-          made.new.0 given.new.0 number.result made.ensures given.ensures _ lp.invariant.3.registers),
+          made.new.register given.new.register number.result made.ensures given.ensures _ lp.invariant.3.registers),
     )
 
 pub returns : goal.returns
