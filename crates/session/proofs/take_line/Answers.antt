@@ -1,0 +1,52 @@
+-- `session::take_line` keeps the bytes before a newline and reads the line that it ends: `Turns` has both cases.
+use mathlib.Core.Path.{refl, sym}
+use borrow.Author.Rules.{rules}
+use native.Mathlib.Omega.{arith}
+use lib.ListN.{length-take}
+use Rattle.progress.specs.Progressing.{state_of}
+use Rattle.lines.proofs.Buffers.{readings_same}
+use Rattle.text.proofs.Laws.{place_within}
+use Rattle.session.proofs.Turns.{kept_within, all_held, line_ended}
+use Rattle.session.proofs.take_line.Goals as goal
+
+pub slice_bounds-keep-end : goal.slice_bounds-keep-end
+slice_bounds-keep-end c = let end = place_within 10 c.args.input.now in
+    simp length-take (omega (arith, c.place_of-end.ensures))
+
+pub returns-then-end-input : goal.returns-then-end-input
+returns-then-end-input c = let kept = c in
+    let found = kept in
+    let args = found.args in
+    let x = args.session.progress in
+    let d = args.delivered.now in
+    let e = args.received.now in
+    all_held args.line.now kept.keep-kept.result.line args.input.now args.out.now args.session.held kept.keep-kept.result.held
+    found.place_of-end.result args.at (state_of x d e) _ (readings_same (state_of x d e) x.stored d e refl refl) found.place_of-end.ensures
+    (search rules) kept.keep-kept.ensures c.if-end-input.true
+
+pub read_held-ended-requires : goal.read_held-ended-requires
+read_held-ended-requires c = let kept = c in
+    let found = kept in
+    let args = found.args in
+    kept_within args.line.now kept.keep-kept.result.line args.input.now args.session.held kept.keep-kept.result.held
+    found.place_of-end.result (search rules) kept.keep-kept.ensures
+
+pub overflow_add-result : goal.overflow_add-result
+overflow_add-result c = let else = c in
+    let found = else in
+    let start = found in
+    omega (arith, place_within 10 start.args.input.now, found.place_of-end.ensures, else.if-end-input.false, start.well_formed.1.1.1.1.0.0)
+
+pub returns : goal.returns
+returns c = let read = c in
+    let else = read in
+    let kept = else in
+    let found = kept in
+    let start = found in
+    let args = start.args in
+    let x = args.session.progress in
+    let d = args.delivered.now in
+    let e = args.received.now in
+    line_ended args.line.now kept.keep-kept.result.line args.input.now args.out.now args.session.held kept.keep-kept.result.held
+    found.place_of-end.result args.at (state_of x d e) _ (readings_same (state_of x d e) x.stored d e refl refl) found.place_of-end.ensures
+    (search rules) kept.keep-kept.ensures _ read.read_held-ended.result.at _ _ else.if-end-input.false start.requires read.read_held-ended.ensures
