@@ -1,0 +1,9 @@
+-- `whole::finish` adds what the session writes at the end: `Adding` has the law.
+use native.Mathlib.Omega.{arith}
+use borrow.Author.Rules.{rules}
+use Rattle.whole.proofs.Adding.{finished}
+use Rattle.whole.proofs.finish.Goals as goal
+
+pub returns : goal.returns
+returns c = let ended = c in
+    finished (omega arith) c.add.ensures ended.finish-written.ensures
