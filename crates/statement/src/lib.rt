@@ -9,6 +9,8 @@ ghost use Rattle.statement.specs.Giving.{Answers, LineAt, Tells, Gives};
 ghost use Rattle.statement.specs.Status.{number_place, status_after, is_end, Ends};
 
 use session::Session;
+use std::io::Read;
+use std::rt::Stdin;
 
 // How it ended: opening and months were accepted, one was refused, it stopped at a line, a read failed, or a write.
 const ACCEPTED: u32 = 0;
@@ -20,6 +22,8 @@ const STOPPED_AT_LINE: u32 = 2;
 const READ_FAILED: u32 = 4;
 
 const WRITE_FAILED: u32 = 5;
+
+const STANDARD_INPUT: i32 = 0;
 
 const NEWLINE: u8 = 10;
 
@@ -78,11 +82,24 @@ fn got_of(answer: isize, buffer: &[u8]) -> Got
     }
 }
 
-// Reads once.
-fn read_some(input: i32, buffer: &mut [u8]) -> Got
+// What a read of the kit's library answered, as `read` of C has it.
+fn answer_of(got: std::io::Result<usize>) -> isize {
+    match got {
+        Ok(bytes) => {
+            if bytes > isize::MAX as usize {
+                return isize::MAX;
+            }
+            bytes as isize
+        }
+        Err(_) => -1,
+    }
+}
+
+// Reads standard input once.
+fn read_some(mut input: Stdin, buffer: &mut [u8]) -> Got
     ensures { result.bytes ≤ length buffer.old }
 {
-    let answer = libc::read(input, buffer);
+    let answer = answer_of(input.read(buffer));
     got_of(answer, buffer)
 }
 
@@ -270,9 +287,11 @@ fn finish(
 }
 
 // Reads the descriptor `input` to its end, writes to `output` what `statement` prints for it, as soon as it is known, and says how that ended. A
-// read or a write that fails is the last call of C, so that errno has its reason.
+// read or a write that fails is the last call of C, so that errno has its reason. The kit's library reads standard input alone, by a handle that takes no place in
+// the call from C: of any other descriptor it is said that a read failed, and a program puts the file that it has opened in the place of standard input.
 #[unsafe(no_mangle)]
 pub extern "C" fn statement_print(
+    stdin: Stdin,
     input: i32,
     output: i32,
     errors: i32,
@@ -282,6 +301,9 @@ pub extern "C" fn statement_print(
     ensures ends { Ends result }
     ensures known { is_end result ≡ true }
 {
+    if input != STANDARD_INPUT {
+        return READ_FAILED;
+    }
     let telling = Telling {
         output,
         errors,
@@ -299,7 +321,7 @@ pub extern "C" fn statement_print(
     let mut turns = u64::MAX;
     while turns > 0 {
         turns -= 1;
-        let got = read_some(input, &mut buffer);
+        let got = read_some(stdin, &mut buffer);
         // An input that can't be read on isn't at its end, so what is incomplete stays so.
         if got.failed {
             return READ_FAILED;

@@ -9,7 +9,9 @@ pub is_account-requires : goal.is_account-requires
 is_account-requires c = tt
 
 pub account_at-before-requires : goal.account_at-before-requires
-account_at-before-requires c = account_numbers _ (sym c.is_account.ensures ∙ c.if-is_account.true)
+account_at-before-requires c =
+    let (long, fits) = account_numbers _ (sym c.is_account.ensures ∙ c.if-is_account.true) in
+    record { words_len = long; next_place_bound = fits }
 
 pub answer_record-answered-requires : goal.answer_record-answered-requires
 answer_record-answered-requires c = tt

@@ -13,7 +13,7 @@ pub write_account-requires : goal.write_account-requires
 write_account-requires c = tt
 
 pub shape_of-answers : goal.shape_of-answers
-shape_of-answers c = c.run-ran.auto.answers.0
+shape_of-answers c = c.run-ran.auto.answers
 
 pub shape_of-account : goal.shape_of-account
 shape_of-account c = c.write_account.auto.buffer

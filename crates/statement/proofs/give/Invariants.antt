@@ -1,0 +1,15 @@
+use mathlib.Core.Path.{◌≡◌, refl, ◌∙◌}
+use mathlib.Core.List.{[]}
+use Prim.Native.Nat.{◌-◌}
+use native.Mathlib.Omega.{arith}
+use lib.ListN.{length}
+use Rattle.session.specs.Sessions.{lent, so_far_of}
+use Rattle.statement.proofs.Giving.{still_fits, GivenSoFar, given_none, given_some, given_inside, given_more, given_all, given_up}
+use Rattle.statement.proofs.give.Given as goal
+
+abbrev pub invariant-loop-taken : goal.invariant-loop-taken
+invariant-loop-taken l = (length l.out ≡ length l.initial.out)
+    × GivenSoFar (so_far_of l.initial.session (lent l.initial.line l.initial.delivered l.initial.received)) l.status-2 l.input l.taken (so_far_of l.session (lent l.line l.delivered l.received)) l.status
+
+abbrev pub decreases-loop-taken : goal.decreases-loop-taken
+decreases-loop-taken l = length l.input - l.taken

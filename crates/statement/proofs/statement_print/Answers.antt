@@ -1,0 +1,86 @@
+-- `statement::statement_print` is safe and ends: the measure is the number of turns that are left. The session stands for the bytes that it was given,
+-- one piece after the other, and the status for what they print; the buffers keep their lengths.
+use mathlib.Core.Path.{◌≡◌, refl, sym, ◌∙◌}
+use lib.ListN.{length}
+use lib.Seq.{length-take-le}
+use Rattle.session.specs.Sessions.{lent, so_far_of}
+use Rattle.statement.specs.Status.{Ends}
+use Rattle.statement.proofs.Lines.{ended}
+use Rattle.statement.proofs.Giving.{still_fits}
+use Rattle.statement.proofs.Reaching.{two_texts, turn_less, Reached, reached_none, reached_more, reached_stop, reached_end}
+use mathlib.Core.Path.{ap}
+use mathlib.Core.Bool.{not}
+use Rattle.statement.proofs.statement_print.Goals as goal
+
+pub large_buffer-buffer-requires : goal.large_buffer-buffer-requires
+large_buffer-buffer-requires c = tt
+
+pub large_buffer-out-requires : goal.large_buffer-out-requires
+large_buffer-out-requires c = tt
+
+pub start-session-requires : goal.start-session-requires
+start-session-requires c = tt
+
+pub loop-turns-init : goal.loop-turns-init
+loop-turns-init c = (c.large_buffer-buffer.ensures, c.large_buffer-out.ensures, reached_none _ (c.start-session.ensures _ _ _))
+
+pub overflow_sub-turns : goal.overflow_sub-turns
+overflow_sub-turns c = c.loop-turns-test.true
+
+pub slice_bounds-read_some-end : goal.slice_bounds-read_some-end
+slice_bounds-read_some-end c = c.loop-turns.invariant.0
+
+pub read_some-got-requires : goal.read_some-got-requires
+read_some-got-requires c = tt
+
+pub returns-then-input-ne-STANDARD_INPUT : goal.returns-then-input-ne-STANDARD_INPUT
+returns-then-input-ne-STANDARD_INPUT c = ended (Ends.unread refl)
+
+pub slice_bounds-buffer-end : goal.slice_bounds-buffer-end
+slice_bounds-buffer-end c = let got = c in
+    still_fits got.read_some-got.ensures got.read_some-got.auto.buffer.0
+
+pub slice_bounds-give-end : goal.slice_bounds-give-end
+slice_bounds-give-end c = let got = c in
+    sym (length-take-le _ got.read_some-got.new.buffer.0 (still_fits got.read_some-got.ensures got.read_some-got.auto.buffer.0))
+
+pub slice_bounds-give-end-in-loop-turns : goal.slice_bounds-give-end-in-loop-turns
+slice_bounds-give-end-in-loop-turns c = c.loop-turns.invariant.1
+
+pub give-given-requires : goal.give-given-requires
+give-given-requires c = two_texts c.loop-turns.invariant.1
+
+pub returns-then-got : goal.returns-then-got
+returns-then-got c = ended (Ends.unwritten refl)
+
+pub returns-then-given : goal.returns-then-given
+returns-then-given c = let given = c in
+    let loop = given.loop-turns in
+    ended (reached_stop loop.invariant.2 given.give-given.ensures c.if-end-eq0.false c.if-given.true)
+
+pub loop-turns-smaller : goal.loop-turns-smaller
+loop-turns-smaller c = let given = c in
+    let inside = given in
+    turn_less inside.loop-turns-test.true
+
+pub loop-turns-preserved : goal.loop-turns-preserved
+loop-turns-preserved c = let given = c in
+    let got = given in
+    let loop = got.loop-turns in (
+      loop.invariant.0 ∙ sym got.read_some-got.auto.buffer.0,
+      loop.invariant.1 ∙ sym given.give-given.auto.out,
+      reached_more loop.invariant.2 given.give-given.ensures c.if-end-eq0.false,
+    )
+
+pub slice_bounds-finish-end : goal.slice_bounds-finish-end
+slice_bounds-finish-end c = c.loop-turns.invariant.1
+
+pub finish-told-requires : goal.finish-told-requires
+finish-told-requires c = two_texts c.loop-turns.invariant.1
+
+pub returns-then-not-given : goal.returns-then-not-given
+returns-then-not-given c = ended (Ends.unwritten refl)
+
+pub returns-then-told : goal.returns-then-told
+returns-then-told c = let last = c in
+    ended (reached_end last.loop-turns.invariant.2 last.finish-told.ensures (ap not c.if-not-given.false))
