@@ -72,7 +72,7 @@ after_digit d x = after_byte_lem (digit_byte d) (ne_eqb (digit_byte d) 10 (λ e.
 after_digits : {text line : List ℕ} (k n : ℕ) → IsLine text line → IsLine (digits k n ++ text) (digits k n ++ line)
 unfolding digits
 after_digits zero n x = x
-after_digits {text} {line} (suc k) n x = by (ltb n 10) (after_digits k (n / 10) (after_digit (n % 10) x))
+after_digits {text} {line} (suc k) n x = by (ltb n 10) (after_digits {text = digit_byte (n % 10) ∷ text} {line = digit_byte (n % 10) ∷ line} k (n / 10) (after_digit (n % 10) x))
   where
     by : (t : Bool) → IsLine (digits k (n / 10) ++ digit_byte (n % 10) ∷ text) (digits k (n / 10) ++ digit_byte (n % 10) ∷ line)
         → IsLine (cond t (digit_byte n ∷ []) (digits k (n / 10) ++ digit_byte (n % 10) ∷ []) ++ text)

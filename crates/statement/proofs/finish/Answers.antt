@@ -7,11 +7,11 @@ finish-written-requires c = tt
 
 pub tell_front-requires : goal.tell_front-requires
 tell_front-requires c = let ended = c in
-    still_fits ended.finish-written.ensures.fits ended.finish-written.auto.out.0
+    still_fits ended.finish-written.ensures.fits ended.finish-written.auto.out
 
 pub shape_of-out : goal.shape_of-out
-shape_of-out c = c.finish-written.auto.out.0
+shape_of-out c = c.finish-written.auto.out
 
 pub returns : goal.returns
 returns c = let ended = c in
-    ending_told ended.requires ended.finish-written.ensures c.tell_front.ensures
+    ending_told ended.requires.room ended.finish-written.ensures c.tell_front.ensures

@@ -32,11 +32,11 @@ overflow_add-taken c = let fed = c in
 
 pub tell_front-told-requires : goal.tell_front-told-requires
 tell_front-told-requires c = let fed = c in
-    still_fits fed.feed-fed.ensures.fits fed.feed-fed.auto.out.0
+    still_fits fed.feed-fed.ensures.fits fed.feed-fed.auto.out
 
 pub shape_of-out-then-told : goal.shape_of-out-then-told
 shape_of-out-then-told c = let fed = c in
-    fed.feed-fed.auto.out.0 ∙ fed.loop-taken.invariant.0
+    fed.feed-fed.auto.out ∙ fed.loop-taken.invariant.0
 
 pub returns-then-told : goal.returns-then-told
 returns-then-told c = given_up
@@ -54,7 +54,7 @@ pub loop-taken-preserved : goal.loop-taken-preserved
 loop-taken-preserved c = let fed = c in
     let inside = fed in
     let input = inside.args.input.now in (
-      fed.feed-fed.auto.out.0 ∙ inside.loop-taken.invariant.0,
+      fed.feed-fed.auto.out ∙ inside.loop-taken.invariant.0,
       given_more input inside.loop-taken.taken inside.loop-taken.invariant.1 inside.loop-taken-test.true fed.feed-fed.ensures
           c.tell_front-told.ensures c.if-told.false,
     )

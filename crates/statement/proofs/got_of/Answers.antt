@@ -19,7 +19,7 @@ pub returns : goal.returns
 returns c = let start = c in
     let same = to_z-of_z start.ranges.answer in
     record {
-      came = rw same at c.count.ensures.1;
-      inside = c.count.ensures.0.0;
+      came = rw same at c.count.ensures.value;
+      inside = c.count.ensures.in_bounds.0;
       fails = rw same (negative start.args.answer);
     }

@@ -27,36 +27,11 @@ loop-turns-init c = (c.large_buffer-buffer.ensures, c.large_buffer-out.ensures, 
 pub overflow_sub-turns : goal.overflow_sub-turns
 overflow_sub-turns c = c.loop-turns-test.true
 
-pub slice_bounds-read_some-end : goal.slice_bounds-read_some-end
-slice_bounds-read_some-end c = c.loop-turns.invariant.0
-
 pub read_some-got-requires : goal.read_some-got-requires
 read_some-got-requires c = tt
 
-pub returns-then-input-ne-STANDARD_INPUT : goal.returns-then-input-ne-STANDARD_INPUT
-returns-then-input-ne-STANDARD_INPUT c = ended (Ends.unread refl)
-
-pub slice_bounds-buffer-end : goal.slice_bounds-buffer-end
-slice_bounds-buffer-end c = let got = c in
-    still_fits got.read_some-got.ensures got.read_some-got.auto.buffer.0
-
-pub slice_bounds-give-end : goal.slice_bounds-give-end
-slice_bounds-give-end c = let got = c in
-    sym (length-take-le _ got.read_some-got.new.buffer.0 (still_fits got.read_some-got.ensures got.read_some-got.auto.buffer.0))
-
-pub slice_bounds-give-end-in-loop-turns : goal.slice_bounds-give-end-in-loop-turns
-slice_bounds-give-end-in-loop-turns c = c.loop-turns.invariant.1
-
 pub give-given-requires : goal.give-given-requires
 give-given-requires c = two_texts c.loop-turns.invariant.1
-
-pub returns-then-got : goal.returns-then-got
-returns-then-got c = ended (Ends.unwritten refl)
-
-pub returns-then-given : goal.returns-then-given
-returns-then-given c = let given = c in
-    let loop = given.loop-turns in
-    ended (reached_stop loop.invariant.2 given.give-given.ensures c.if-end-eq0.false c.if-given.true)
 
 pub loop-turns-smaller : goal.loop-turns-smaller
 loop-turns-smaller c = let given = c in
@@ -64,23 +39,38 @@ loop-turns-smaller c = let given = c in
     turn_less inside.loop-turns-test.true
 
 pub loop-turns-preserved : goal.loop-turns-preserved
-loop-turns-preserved c = let given = c in
-    let got = given in
-    let loop = got.loop-turns in (
-      loop.invariant.0 ∙ sym got.read_some-got.auto.buffer.0,
-      loop.invariant.1 ∙ sym given.give-given.auto.out,
-      reached_more loop.invariant.2 given.give-given.ensures c.if-end-eq0.false,
+loop-turns-preserved c =
+    let loop = c.loop-turns in (
+      loop.invariant.0 ∙ sym c.read_some-got.auto.buffer,
+      loop.invariant.1 ∙ sym c.give-given.auto.out,
+      reached_more loop.invariant.2 c.give-given.ensures c.if-given.false,
     )
 
-pub slice_bounds-finish-end : goal.slice_bounds-finish-end
-slice_bounds-finish-end c = c.loop-turns.invariant.1
-
 pub finish-told-requires : goal.finish-told-requires
-finish-told-requires c = two_texts c.loop-turns.invariant.1
+finish-told-requires c = record { room = two_texts c.loop-turns.invariant.1 }
+
+pub slice_bounds-buffer-end : goal.slice_bounds-buffer-end
+slice_bounds-buffer-end c = still_fits c.read_some-got.ensures c.read_some-got.auto.buffer
+
+-- Each way to end is one that has a number.
+pub returns-then-input-ne-STANDARD_INPUT : goal.returns-then-input-ne-STANDARD_INPUT
+returns-then-input-ne-STANDARD_INPUT c = let (ends, known) = ended (Ends.unread refl) in record { ends = ends; known = known }
+
+pub returns-then-got : goal.returns-then-got
+returns-then-got c = let (ends, known) = ended (Ends.unread refl) in record { ends = ends; known = known }
+
+pub returns-then-given : goal.returns-then-given
+returns-then-given c = let (ends, known) = ended (Ends.unwritten refl) in record { ends = ends; known = known }
 
 pub returns-then-not-given : goal.returns-then-not-given
-returns-then-not-given c = ended (Ends.unwritten refl)
+returns-then-not-given c =
+    let (ends, known) = ended (reached_stop c.loop-turns.invariant.2 c.give-given.ensures c.if-given.false c.if-not-given.true) in
+    record { ends = ends; known = known }
 
 pub returns-then-told : goal.returns-then-told
-returns-then-told c = let last = c in
-    ended (reached_end last.loop-turns.invariant.2 last.finish-told.ensures (ap not c.if-not-given.false))
+returns-then-told c = let (ends, known) = ended (Ends.unwritten refl) in record { ends = ends; known = known }
+
+pub returns : goal.returns
+returns c =
+    let (ends, known) = ended (reached_end c.loop-turns.invariant.2 c.finish-told.ensures c.if-told.false) in
+    record { ends = ends; known = known }

@@ -1,5 +1,6 @@
 -- `statement::tell` goes through the lines of a text. What is left of it leads from the status so far to that after the whole.
-use mathlib.Core.Path.{◌≡◌, refl, sym, ◌∙◌}
+use mathlib.Core.Path.{◌≡◌, refl, sym, ap, ◌∙◌}
+use mathlib.Core.Bool.{not}
 use Prim.Native.Nat.{◌≤◌, ◌-◌}
 use native.Mathlib.Omega.{arith}
 use borrow.Author.Rules.{rules}
@@ -31,7 +32,7 @@ pub slice_bounds-tell_line-end : goal.slice_bounds-tell_line-end
 slice_bounds-tell_line-end c = omega arith
 
 pub returns-then-failed : goal.returns-then-failed
-returns-then-failed c = record { told = λ e. absurd (true-false (sym c.if-failed.true ∙ e)) }
+returns-then-failed c = record { told = λ e. absurd (true-false (sym (ap not c.if-failed.true) ∙ e)) }
 
 pub loop-place-smaller : goal.loop-place-smaller
 loop-place-smaller c = omega arith
