@@ -10,8 +10,8 @@
 #include <string.h>
 #include <unistd.h>
 
-/* Reads `input` to its end and prints its statement to `output`, each text as soon as it is certain. It says how that ended: 0, 1 or 2 as below,
- * or that a read or a write failed, with errno as that call left it. */
+/* Reads `input`, which has to be standard input, to its end and prints its statement to `output`, each text as soon as it is certain. It says how that
+ * ended: 0, 1 or 2 as below, or that a read or a write failed, with errno as that call left it. */
 uint32_t statement_print(int32_t input, int32_t output, int32_t errors, bool table, bool explain);
 
 enum { READ_FAILED = 4, WRITE_FAILED = 5 };
@@ -111,17 +111,26 @@ static int tell(const char *text)
     return ACCEPTED;
 }
 
+/* Opens a file in the place of standard input, which alone the library reads. */
+static bool take_input(const char *file)
+{
+    const int input = open(file, O_RDONLY);
+
+    if (input < 0)
+        return false;
+    return input == STDIN_FILENO || (dup2(input, STDIN_FILENO) == STDIN_FILENO && close(input) == 0);
+}
+
 static int print_statement(const struct wish *wish)
 {
     const char *name = wish->file ? wish->file : "standard input";
-    const int input = wish->file ? open(wish->file, O_RDONLY) : STDIN_FILENO;
 
-    if (input < 0)
+    if (wish->file && !take_input(wish->file))
         return failed(name, WRONG_USE);
     if (!wish->file && isatty(STDIN_FILENO))
         fputs("statement: type the account's fourteen lines and its months (statement --help shows them); Ctrl-D ends the input\n", stderr);
     errno = 0;
-    const uint32_t ended = statement_print(input, STDOUT_FILENO, STDERR_FILENO, wish->table, wish->explain);
+    const uint32_t ended = statement_print(STDIN_FILENO, STDOUT_FILENO, STDERR_FILENO, wish->table, wish->explain);
     if (ended == READ_FAILED)
         return failed(name, FAILED);
     if (ended == WRITE_FAILED)

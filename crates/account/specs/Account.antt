@@ -1,5 +1,5 @@
 -- Document 01, "Account and price list": the four calls, each of which takes the account as it is and hands it back with the answer.
-use Rattle.std.specs.Prelude.{Bool, false, cond, List, ℕ, ◌+◌, eqb, replicate}
+use Rattle.std.specs.Prelude.{false, cond, List, ℕ, ◌+◌, eqb, replicate}
 use Rattle.hours.specs.Hours.{fixed_schedule, by_period}
 use Rattle.registers.specs.Registers.{sum_of, demand_power}
 use Rattle.tariff.specs.declared.Rider.TheVariants.{Banked}

@@ -1,6 +1,6 @@
 -- The weekday of a month's first day in closed form: days counted from Monday, 1 March 1999, in years that begin in March, so that
 -- a leap day ends its year. Each month adds its days, so the count follows the definition's recursion.
-use mathlib.Core.Path.{◌≡◌, refl, ap, ◌∙◌, sym}
+use mathlib.Core.Path.{◌≡◌, refl}
 use mathlib.Core.Bool.{Bool, true, false, cond, ◌&&◌, ◌||◌, not}
 use mathlib.Core.Logic.{⊎_elim}
 use Prim.Native.Nat.{ℕ, zero, suc, ◌+◌, ◌-◌, ◌*◌, ◌/◌, ◌%◌, ◌≤◌, ◌<◌}
@@ -8,9 +8,9 @@ use native.Mathlib.Nat.{eq-or-lt_of_le}
 use native.Mathlib.Numerals.{add-one}
 use native.Mathlib.Omega.{arith}
 use borrow.Author.Tests.{eq-eqb, ne_eqb, eqb-true, eqb-false}
-use lib.Dec.{T, eqb, eqb→eq}
+use lib.Dec.{eqb, eqb→eq}
 use lib.ListN.{get_or}
-use Rattle.calendar.specs.Calendar.{year_of, is_leap, common_days, leap_day, days_in, first_weekday}
+use Rattle.calendar.specs.Calendar.{is_leap, common_days, leap_day, days_in, first_weekday}
 use Rattle.calendar.proofs.Below.{below}
 use Rattle.calendar.proofs.Laws.{days_in-is}
 

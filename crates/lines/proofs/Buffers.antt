@@ -1,9 +1,9 @@
 -- A list stored in a buffer from a place on, and the readings of a month stored in the registers.
 use mathlib.Core.Path.{◌≡◌, refl, sym, ◌∙◌, ap}
 use mathlib.Core.List.{List, [], ◌∷◌, ◌++◌}
-use Prim.Native.Nat.{ℕ, zero, suc, ◌+◌, ◌<◌}
+use Prim.Native.Nat.{ℕ, zero, suc, ◌<◌}
 use native.Mathlib.Omega.{arith}
-use lib.ListN.{length, set, take}
+use lib.ListN.{set, take}
 use lib.Seq.{sets, set_comm, set-set}
 use Rattle.text.proofs.Lists.{sets-append}
 use Rattle.lines.specs.Statement.{State}

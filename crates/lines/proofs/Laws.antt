@@ -11,7 +11,7 @@ use Rattle.numerals.specs.declared.Numbers.{Numbers}
 use Rattle.grammar.specs.Grammar.{opening_line, bill_line, critical_line, run_line}
 use Rattle.numerals.specs.Reading.{numbers_as}
 use Rattle.printing.specs.Printing.{bill_text, line_text}
-use Rattle.lines.specs.Statement.{State, state, outcome, next_number, fault, opened, opening_read, begun, bill_read, with_critical, critical_read}
+use Rattle.lines.specs.Statement.{State, outcome, next_number, fault, opened, opening_read, begun, bill_read, with_critical, critical_read}
 use Rattle.lines.specs.Statement.{with_line, with_run, run_read, month_reply, month_end, run_or_bill_read, expected_read, at_end}
 use Rattle.lines.specs.Statement.{has_stopped}
 

@@ -1,13 +1,13 @@
 -- Bytes in, text out: where the input is cut makes no difference, and the whole is what `statement` prints.
 use mathlib.Core.Path.{◌≡◌, refl, sym, ◌∙◌, ap}
-use mathlib.Core.Bool.{Bool, true, false, cond}
+use mathlib.Core.Bool.{Bool, true, false}
 use mathlib.Core.List.{List, [], ◌∷◌, ◌++◌, append_assoc}
 use Prim.Native.Nat.{ℕ, zero, suc, ◌≤◌, ◌<◌}
 use native.Mathlib.Omega.{arith}
 use borrow.Author.Tests.{ne_eqb, le-leb}
 use lib.Dec.{eqb}
 use lib.ListN.{length, take}
-use Rattle.lines.specs.Statement.{State, line_read, at_end, text_from, lines_from, statement_of}
+use Rattle.lines.specs.Statement.{State, line_read, text_from, lines_from, statement_of}
 use Rattle.lines.specs.Feeding.{kept_bytes, SoFar, nothing_read, after_byte, byte_text, after, printed, ending, taken_of, joined, pieces_text, Streams}
 use Rattle.lines.proofs.Lengths.{line_cut}
 use Rattle.lines.proofs.Quiet.{quiet}

@@ -1,18 +1,16 @@
 -- A number, digit after digit.
 use mathlib.Core.Path.{◌≡◌, refl}
-use mathlib.Core.Bool.{Bool, true, false, cond, ◌&&◌, and-false}
+use mathlib.Core.Bool.{Bool, true, false, cond, and-false}
 use mathlib.Core.List.{List, [], ◌∷◌}
 use Prim.Native.Nat.{ℕ, ◌+◌, ◌-◌, ◌*◌, ◌^◌, ◌≤◌, ◌<◌}
 use native.Mathlib.Numerals.{add-one}
 use native.Mathlib.Omega.{arith}
-use borrow.Author.Tests.{lt-ltb, le-ltb, le-leb, lt-leb, ltb-true}
-use lib.Dec.{leb, ltb}
+use borrow.Author.Tests.{lt-ltb, le-ltb, le-leb, lt-leb}
 use lib.ListN.{length, get_or, drop, drop_of_length-le}
 use lib.Seq.{drop-cons}
 use Rattle.numerals.specs.Numerals.{all_digits, value_after, value_of, is_number, number_in}
 use Rattle.numerals.specs.declared.Numbers.{Numbers}
 use Rattle.numerals.specs.Reading.{numbers_as}
-use Rattle.calendar.proofs.Booleans.{and_both}
 
 module _ (i : ℕ) (l : List ℕ) where
   -- There is a digit at a place, so the rest decides; or there is none.

@@ -1,7 +1,7 @@
 -- Run lines at the front of an input, over plain values. l is the input, n how many readings there are.
 use mathlib.Core.Path.{◌≡◌, refl, sym, ◌∙◌, ap, subst}
 use mathlib.Core.Bool.{Bool, true, false, cond, ◌&&◌}
-use mathlib.Core.List.{List, [], ◌∷◌}
+use mathlib.Core.List.{List, []}
 use Prim.Native.Nat.{ℕ, zero, suc, ◌+◌, ◌-◌, ◌≤◌, ◌<◌, min}
 use native.Mathlib.Omega.{arith}
 use borrow.Author.Tests.{leb-true, le-leb, lt-leb, eqb-true, eqb-false, eq-eqb, ne_eqb}
@@ -14,7 +14,7 @@ use Rattle.grammar.specs.Grammar.{run_line}
 use Rattle.numerals.specs.Reading.{numbers_as}
 use Rattle.progress.specs.declared.Run.{Run}
 use Rattle.progress.specs.declared.Progress.{Progress}
-use Rattle.lines.specs.Statement.{State, state, Outcome, outcome, next_number, counted, with_run, line_read}
+use Rattle.lines.specs.Statement.{State, Outcome, outcome, next_number, counted, with_run, line_read}
 use Rattle.lines.specs.Feeding.{Registers, registers_of, with_readings}
 use Rattle.progress.specs.Progressing.{state_of, line_at, is_run, is_run_expected, runs_bytes, runs_state, RunsRead}
 use Rattle.progress.specs.Ending.{run_at, ran_to}

@@ -1,11 +1,10 @@
 -- The day view over plain values: what holds where there is one, and which part it is.
-use mathlib.Core.Path.{◌≡◌, refl, ap, sym}
-use mathlib.Core.Bool.{Bool, true, false, cond, not, ◌||◌}
+use mathlib.Core.Path.{◌≡◌}
+use mathlib.Core.Bool.{true, false, cond, ◌||◌}
 use mathlib.Core.List.{List}
-use Prim.Native.Nat.{ℕ, ◌+◌, ◌-◌, ◌*◌, ◌≤◌, ◌<◌}
-use native.Mathlib.Nat.{zero-mul, zero-add}
+use Prim.Native.Nat.{ℕ, ◌+◌, ◌-◌, ◌*◌, ◌≤◌}
 use native.Mathlib.Omega.{arith}
-use borrow.Author.Tests.{eq-eqb, ne_eqb, eqb-true, ltb-false, not-false}
+use borrow.Author.Tests.{eqb-true, ltb-false, not-false}
 use lib.Dec.{eqb, ltb}
 use lib.ListN.{length, take, drop}
 use denote.Ref.{Bor}
@@ -13,7 +12,7 @@ use Rattle.calendar.specs.Calendar.{last_month, days_in, day_length, readings_th
 use Rattle.calendar.proofs.Booleans.{or_neither}
 use Rattle.calendar.proofs.Laws.{through_more, through_mono, month_length-is}
 use Rattle.registers.specs.Registers.{length_refused}
-use Rattle.registers.specs.DayView.{empty_view, Part, view_of, IsPart}
+use Rattle.registers.specs.DayView.{empty_view, view_of, IsPart}
 
 pub length-right : (m : ℕ) (r : List ℕ) → length_refused m r ≡ false → length r ≡ month_length m
 unfolding length_refused

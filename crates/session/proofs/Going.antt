@@ -6,8 +6,8 @@ use Prim.Native.Nat.{ℕ, ◌+◌, ◌-◌, ◌≤◌, ◌<◌}
 use native.Mathlib.Nat.{sub-zero}
 use native.Mathlib.Omega.{arith}
 use borrow.Author.Tests.{le-leb, lt-leb, leb-true, leb-false, not-true, not-false}
-use lib.ListN.{length, take, drop, length-append, length-drop, drop_of_length-le}
-use lib.Seq.{sets, length-sets, take_all, take-add, drop-drop}
+use lib.ListN.{length, take, drop, length-drop, drop_of_length-le}
+use lib.Seq.{sets, length-sets, take-add, drop-drop}
 use Rattle.printing.specs.Writing.{fits, has_room, Wrote}
 use Rattle.lines.specs.Feeding.{SoFar, after, printed, taken_of, registers_after}
 use Rattle.session.specs.declared.Session.{Session}

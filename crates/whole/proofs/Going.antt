@@ -1,11 +1,11 @@
 -- What is still to be added of the text.
 use mathlib.Core.Path.{◌≡◌, refl, sym, ◌∙◌, ap}
 use mathlib.Core.Bool.{true}
-use mathlib.Core.List.{List, [], ◌++◌, append_assoc}
+use mathlib.Core.List.{List, ◌++◌, append_assoc}
 use Prim.Native.Nat.{ℕ, ◌+◌, ◌-◌, ◌≤◌, ◌<◌}
 use native.Mathlib.Omega.{arith}
 use lib.ListN.{length, take, drop, length-drop, take-append-drop, drop_of_length-le}
-use lib.Seq.{sets, length-sets, take_all, drop-drop}
+use lib.Seq.{sets, length-sets, drop-drop}
 use Rattle.text.proofs.Lists.{rest_is}
 use Rattle.lines.specs.Statement.{last_number, has_stopped, statement_of}
 use Rattle.lines.specs.Feeding.{SoFar, nothing_read, after, printed, ending}

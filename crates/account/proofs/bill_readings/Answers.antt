@@ -1,5 +1,4 @@
 -- `account::bill_readings` tallies both registers, goes by its number, and bills: `Tallied` joins the three.
-use borrow.Author.Rules.{rules}
 use mathlib.Core.Path.{◌≡◌, sym, ◌∙◌}
 use Rattle.account.specs.Refusals.{billing_number}
 use Rattle.account.proofs.Accepted.{billing_accepted}

@@ -1,5 +1,4 @@
 -- `account::billed` takes the bill and the account after it.
-use borrow.Author.Rules.{rules}
 use Rattle.account.specs.Tallies.{reply_from}
 use Rattle.account.proofs.billed.Goals as goal
 

@@ -1,5 +1,4 @@
 -- `account::cant_arise` makes the definition's tests in turn.
-use borrow.Author.Rules.{rules}
 use borrow.Author.Tests.{lt-ltb, le-ltb}
 use Rattle.refusals.proofs.Laws.{contents_refuse}
 use Rattle.account.specs.Refusals.{contents_refused, cant_arise}

@@ -1,5 +1,4 @@
 -- `account::faults_of` asks of either register what the definition asks.
-use borrow.Author.Rules.{rules}
 use Rattle.account.proofs.faults_of.Goals as goal
 
 pub returns : goal.returns

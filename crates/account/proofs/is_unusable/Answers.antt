@@ -1,5 +1,4 @@
 -- `account::is_unusable` asks row 3's two conditions in turn.
-use borrow.Author.Rules.{rules}
 use Rattle.account.specs.Refusals.{unusable}
 use Rattle.account.proofs.is_unusable.Goals as goal
 

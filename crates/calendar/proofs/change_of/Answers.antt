@@ -1,5 +1,4 @@
 -- `calendar::change_of` tests the year and then the month: `Lengths` has each case.
-use borrow.Author.Rules.{rules}
 use mathlib.Core.Path.{◌∙◌, sym}
 use native.Mathlib.Omega.{arith}
 use Rattle.calendar.proofs.Lengths.{first_weekday-lt, early_changes, other_changes, march_changes, november_changes}

@@ -1,5 +1,4 @@
 -- `calendar::day_kind_of` makes the definition's test.
-use borrow.Author.Rules.{rules}
 use borrow.Author.Tests.{lt-ltb, le-ltb}
 use Rattle.calendar.specs.Calendar.{day_kind_of}
 use Rattle.calendar.proofs.day_kind_of.Goals as goal

@@ -1,5 +1,4 @@
 -- `calendar::day_length` finds what the clocks do on the day from the month's change.
-use borrow.Author.Rules.{rules}
 use mathlib.Core.Path.{◌∙◌}
 use Rattle.calendar.proofs.Laws.{clock_of-is, day_length-is}
 use Rattle.calendar.proofs.day_length.Goals as goal

@@ -1,5 +1,4 @@
 -- `calendar::days_in` reads the table of a common year and adds the leap day.
-use borrow.Author.Rules.{rules}
 use native.Mathlib.Omega.{arith}
 use Rattle.calendar.proofs.Laws.{days_in-is, days_in-le}
 use Rattle.calendar.proofs.days_in.Goals as goal

@@ -1,5 +1,4 @@
 -- `calendar::first_weekday` is the closed form of `Weekday`, which follows the definition month by month.
-use borrow.Author.Rules.{rules}
 use mathlib.Core.Path.{sym}
 use Rattle.calendar.proofs.Weekday.{count, leap_days, closed}
 use Rattle.calendar.proofs.first_weekday.Goals as goal

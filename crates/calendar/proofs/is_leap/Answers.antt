@@ -1,5 +1,4 @@
 -- `calendar::is_leap` tests 4, 100 and 400 in turn, as the definition does.
-use borrow.Author.Rules.{rules}
 use borrow.Author.Tests.{eq-eqb, ne_eqb}
 use Rattle.calendar.specs.Calendar.{is_leap}
 use Rattle.calendar.proofs.is_leap.Goals as goal

@@ -1,5 +1,4 @@
 -- `calendar::leap_day` tests the month and then the year, as the definition does.
-use borrow.Author.Rules.{rules}
 use borrow.Author.Tests.{eq-eqb, ne_eqb}
 use Rattle.calendar.specs.Calendar.{leap_day}
 use Rattle.calendar.proofs.leap_day.Goals as goal

@@ -1,6 +1,4 @@
 -- `calendar::month_length` is the definition.
-use borrow.Author.Rules.{rules}
-use native.Mathlib.Omega.{arith}
 use Rattle.calendar.proofs.Laws.{month_length-is}
 use Rattle.calendar.proofs.month_length.Goals as goal
 

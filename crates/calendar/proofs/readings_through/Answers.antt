@@ -1,5 +1,4 @@
 -- `calendar::readings_through` multiplies, since each day but one has as many readings.
-use borrow.Author.Rules.{rules}
 use mathlib.Core.Path.{sym}
 use native.Mathlib.Omega.{arith}
 use Rattle.calendar.proofs.Laws.{length_by-le}

@@ -1,8 +1,6 @@
 -- `calendar::season_of` tests both ends of the summer, as the definition does.
-use borrow.Author.Rules.{rules}
 use borrow.Author.Tests.{le-leb, lt-leb}
-use native.Mathlib.Omega.{arith}
-use Rattle.calendar.specs.Calendar.{season_of, month_of_year}
+use Rattle.calendar.specs.Calendar.{season_of}
 use Rattle.calendar.proofs.season_of.Goals as goal
 
 pub returns-then-of_year-lt7 : goal.returns-then-of_year-lt7

@@ -1,5 +1,4 @@
 -- `calendar::weekday_of` counts the days from the first one, by weeks.
-use borrow.Author.Rules.{rules}
 use native.Mathlib.Omega.{arith}
 use Rattle.calendar.specs.Calendar.{weekday_of}
 use Rattle.calendar.proofs.Lengths.{first_weekday-lt}

@@ -1,9 +1,6 @@
 -- `grammar::begins_with` compares one byte after the other: `Texts` has the step.
-use mathlib.Core.Path.{◌≡◌, refl, sym, ◌∙◌}
-use Prim.Native.Nat.{◌≤◌, ◌-◌}
+use mathlib.Core.Path.{refl, sym, ◌∙◌}
 use native.Mathlib.Omega.{arith}
-use lib.ListN.{length, drop}
-use Rattle.grammar.specs.Grammar.{begins_with}
 use Rattle.grammar.proofs.Texts.{begins_next, begins_not, begins_end, begins_short}
 use Rattle.grammar.proofs.begins_with.Goals as goal
 

@@ -1,9 +1,7 @@
-use mathlib.Core.Path.{◌≡◌, refl, sym, ◌∙◌}
+use mathlib.Core.Path.{◌≡◌}
 use Prim.Native.Nat.{◌≤◌, ◌-◌}
-use native.Mathlib.Omega.{arith}
 use lib.ListN.{length, drop}
 use Rattle.grammar.specs.Grammar.{begins_with}
-use Rattle.grammar.proofs.Texts.{begins_next, begins_not, begins_end, begins_short}
 use Rattle.grammar.proofs.begins_with.Given as goal
 
 abbrev pub invariant-loop-place : goal.invariant-loop-place

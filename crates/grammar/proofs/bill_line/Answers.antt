@@ -1,6 +1,5 @@
 -- `grammar::bill_line` reads the line by its key.
 use Rattle.grammar.specs.Grammar.{bill_line}
-use borrow.Author.Rules.{rules}
 use Rattle.grammar.proofs.bill_line.Goals as goal
 
 pub returns : goal.returns

@@ -1,7 +1,6 @@
 -- `grammar::choice_in` tries one word after the other, as the definition does.
 use mathlib.Core.Path.{sym, ◌∙◌}
 use Rattle.grammar.specs.Grammar.{choice_in}
-use borrow.Author.Rules.{rules}
 use Rattle.grammar.proofs.choice_in.Goals as goal
 
 pub returns-then-is_text : goal.returns-then-is_text

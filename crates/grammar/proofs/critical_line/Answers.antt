@@ -1,6 +1,5 @@
 -- `grammar::critical_line` reads the line by its key.
 use Rattle.grammar.specs.Grammar.{critical_line}
-use borrow.Author.Rules.{rules}
 use Rattle.grammar.proofs.critical_line.Goals as goal
 
 pub returns : goal.returns

@@ -1,7 +1,6 @@
 -- `grammar::is_text` compares the lengths first, as the definition does.
 use borrow.Author.Tests.{eq-eqb, ne_eqb}
 use Rattle.grammar.specs.Grammar.{is_text}
-use borrow.Author.Rules.{rules}
 use Rattle.grammar.proofs.is_text.Goals as goal
 
 pub returns-then-line-text : goal.returns-then-line-text

@@ -2,7 +2,6 @@
 use mathlib.Core.Path.{sym, ◌∙◌}
 use Rattle.grammar.specs.Kinds.{value_in}
 use Rattle.grammar.proofs.Texts.{begins_long, keyed_yes, keyed_no}
-use borrow.Author.Rules.{rules}
 use Rattle.grammar.proofs.keyed_value.Goals as goal
 
 pub slice_bounds-value_in-count : goal.slice_bounds-value_in-count

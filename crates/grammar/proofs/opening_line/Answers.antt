@@ -1,5 +1,4 @@
 -- `grammar::opening_line` reads a line by its key, which it takes from a table.
-use borrow.Author.Rules.{rules}
 use Rattle.grammar.proofs.Texts.{opening_past, key_within, opening_at}
 use Rattle.grammar.proofs.opening_line.Goals as goal
 

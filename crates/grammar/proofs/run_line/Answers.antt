@@ -1,6 +1,5 @@
 -- `grammar::run_line` reads the line by its key.
 use Rattle.grammar.specs.Grammar.{run_line}
-use borrow.Author.Rules.{rules}
 use Rattle.grammar.proofs.run_line.Goals as goal
 
 pub returns : goal.returns

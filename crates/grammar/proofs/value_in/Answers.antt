@@ -1,5 +1,4 @@
 -- `grammar::value_in` reads a value by its kind.
-use borrow.Author.Rules.{rules}
 use native.Mathlib.Omega.{arith}
 use Rattle.grammar.proofs.Texts.{next, value_number}
 use Rattle.grammar.proofs.value_in.Goals as goal

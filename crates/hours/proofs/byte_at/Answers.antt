@@ -1,5 +1,4 @@
 -- `hours::byte_at` shifts the byte to the lowest place of its word.
-use borrow.Author.Rules.{rules}
 use native.Mathlib.Omega.{arith}
 use Rattle.hours.specs.Packing.{byte_at}
 use Rattle.hours.proofs.byte_at.Goals as goal

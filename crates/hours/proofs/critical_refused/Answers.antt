@@ -1,5 +1,4 @@
 -- `hours::critical_refused` makes the two tests of refusal 9.
-use borrow.Author.Rules.{rules}
 use Rattle.hours.specs.CriticalDays.{critical_refused}
 use Rattle.hours.proofs.critical_refused.Goals as goal
 

@@ -1,5 +1,4 @@
 -- `hours::day_hours` is the definition, from the calendar's season and day kind.
-use borrow.Author.Rules.{rules}
 use Rattle.hours.proofs.day_hours.Goals as goal
 
 pub returns : goal.returns

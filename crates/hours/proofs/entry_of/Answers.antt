@@ -1,5 +1,4 @@
 -- `hours::entry_of` shifts the entry's two bits to the lowest place and masks the others.
-use borrow.Author.Rules.{rules}
 use Prim.Native.Nat.{◌*◌, ◌/◌, ◌^◌}
 use lib.Bits.{and_mask}
 use Rattle.hours.specs.Packing.{entry_of}

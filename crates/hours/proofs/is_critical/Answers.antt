@@ -1,5 +1,4 @@
 -- `hours::is_critical` takes the day's bit; days that are no bit of the number aren't critical.
-use borrow.Author.Rules.{rules}
 use borrow.Author.Tests.{le-leb}
 use native.Mathlib.Omega.{arith}
 use lib.Bits.{and_mask}

@@ -1,11 +1,10 @@
 -- `hours::pack` puts each word behind those before it.
-use borrow.Author.Rules.{rules}
 use mathlib.Core.Path.{◌≡◌, refl, sym, ◌∙◌}
 use mathlib.Core.Bool.{true}
-use Prim.Native.Nat.{suc, ◌+◌, ◌-◌, ◌≤◌}
+use Prim.Native.Nat.{suc, ◌+◌}
 use native.Mathlib.Nat.{zero-add}
 use native.Mathlib.Omega.{arith}
-use lib.ListN.{length, take, length-set}
+use lib.ListN.{length, length-set}
 use lib.Seq.{take_all, take-suc-set}
 use Rattle.hours.specs.Schedules.{all_entries, words_from, packed, words_or_none}
 use Rattle.hours.proofs.Packed.{accepted_schedule, words_more}

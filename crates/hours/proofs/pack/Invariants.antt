@@ -1,13 +1,7 @@
-use borrow.Author.Rules.{rules}
-use mathlib.Core.Path.{◌≡◌, refl, sym, ◌∙◌}
-use mathlib.Core.Bool.{true}
-use Prim.Native.Nat.{suc, ◌+◌, ◌-◌, ◌≤◌}
-use native.Mathlib.Nat.{zero-add}
-use native.Mathlib.Omega.{arith}
-use lib.ListN.{length, take, length-set}
-use lib.Seq.{take_all, take-suc-set}
-use Rattle.hours.specs.Schedules.{all_entries, words_from, packed, words_or_none}
-use Rattle.hours.proofs.Packed.{accepted_schedule, words_more}
+use mathlib.Core.Path.{◌≡◌}
+use Prim.Native.Nat.{◌-◌, ◌≤◌}
+use lib.ListN.{length, take}
+use Rattle.hours.specs.Schedules.{words_from}
 use Rattle.hours.proofs.pack.Given as goal
 
 abbrev pub invariant-loop-place : goal.invariant-loop-place

@@ -1,5 +1,4 @@
 -- `hours::past_last_day` masks the bits past the month's last day.
-use borrow.Author.Rules.{rules}
 use native.Mathlib.Omega.{arith}
 use Rattle.calendar.proofs.Laws.{days_in-le}
 use Rattle.hours.specs.CriticalDays.{past_last_day}

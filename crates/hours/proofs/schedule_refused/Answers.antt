@@ -1,9 +1,8 @@
 -- `hours::schedule_refused` asks for the length, and then each entry in turn.
-use mathlib.Core.Path.{◌≡◌, refl, sym, ap, ◌∙◌}
-use Prim.Native.Nat.{◌-◌, ◌≤◌}
+use mathlib.Core.Path.{refl, sym, ap, ◌∙◌}
 use native.Mathlib.Omega.{arith}
 use borrow.Author.Tests.{eq-eqb, ne_eqb, le-leb, lt-leb}
-use lib.ListN.{length, drop, drop_of_length-le}
+use lib.ListN.{drop_of_length-le}
 use Rattle.hours.specs.Schedules.{all_entries, schedule_refused}
 use Rattle.hours.proofs.Packed.{good_entry, bad_entry}
 use Rattle.hours.proofs.schedule_refused.Goals as goal

@@ -1,10 +1,7 @@
-use mathlib.Core.Path.{◌≡◌, refl, sym, ap, ◌∙◌}
+use mathlib.Core.Path.{◌≡◌}
 use Prim.Native.Nat.{◌-◌, ◌≤◌}
-use native.Mathlib.Omega.{arith}
-use borrow.Author.Tests.{eq-eqb, ne_eqb, le-leb, lt-leb}
-use lib.ListN.{length, drop, drop_of_length-le}
-use Rattle.hours.specs.Schedules.{all_entries, schedule_refused}
-use Rattle.hours.proofs.Packed.{good_entry, bad_entry}
+use lib.ListN.{length, drop}
+use Rattle.hours.specs.Schedules.{all_entries}
 use Rattle.hours.proofs.schedule_refused.Given as goal
 
 -- The entries before the place are good.

@@ -1,8 +1,7 @@
 -- `hours::unpack` puts the four entries of a byte behind those of the bytes before it.
 use mathlib.Core.Path.{◌≡◌, refl, sym, ◌∙◌}
-use Prim.Native.Nat.{◌*◌, ◌≤◌, ◌-◌}
 use native.Mathlib.Omega.{arith}
-use lib.ListN.{length, take, length-set}
+use lib.ListN.{length-set}
 use lib.Seq.{take_all}
 use Rattle.hours.specs.Packing.{unpacked}
 use Rattle.hours.proofs.Storing.{byte_more}

@@ -1,10 +1,7 @@
-use mathlib.Core.Path.{◌≡◌, refl, sym, ◌∙◌}
+use mathlib.Core.Path.{◌≡◌}
 use Prim.Native.Nat.{◌*◌, ◌≤◌, ◌-◌}
-use native.Mathlib.Omega.{arith}
-use lib.ListN.{length, take, length-set}
-use lib.Seq.{take_all}
+use lib.ListN.{length, take}
 use Rattle.hours.specs.Packing.{unpacked}
-use Rattle.hours.proofs.Storing.{byte_more}
 use Rattle.hours.proofs.unpack.Given as goal
 
 abbrev pub invariant-loop-b : goal.invariant-loop-b

@@ -1,10 +1,9 @@
 -- `hours::word_from` puts each entry below those behind it.
-use mathlib.Core.Path.{◌≡◌, refl, sym, ◌∙◌}
-use Prim.Native.Nat.{◌+◌, ◌-◌, ◌*◌, ◌^◌, ◌≤◌, ◌<◌}
+use mathlib.Core.Path.{◌≡◌, refl}
+use Prim.Native.Nat.{◌+◌, ◌-◌, ◌*◌, ◌^◌, ◌<◌}
 use native.Mathlib.Nat.{add-zero}
 use lib.ListN.{get_or}
 use native.Mathlib.Omega.{arith}
-use borrow.Author.Rules.{rules}
 use Rattle.hours.specs.Schedules.{word_from}
 use Rattle.hours.proofs.Packed.{entry_within, word_fits, word_more}
 use Rattle.hours.proofs.word_from.Goals as goal

@@ -1,5 +1,4 @@
 -- `kozempil::account_at` reads the places of the account.
-use borrow.Author.Rules.{rules}
 use Rattle.kozempil.specs.Interface.{account_at}
 use Rattle.kozempil.proofs.account_at.Goals as goal
 

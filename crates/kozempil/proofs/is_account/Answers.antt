@@ -1,5 +1,4 @@
 -- `kozempil::is_account` makes the definition's tests.
-use borrow.Author.Rules.{rules}
 use borrow.Author.Tests.{lt-leb, le-leb, eq-eqb, ne_eqb}
 use Rattle.kozempil.specs.Interface.{is_account}
 use Rattle.kozempil.proofs.is_account.Goals as goal

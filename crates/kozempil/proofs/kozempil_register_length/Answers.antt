@@ -1,5 +1,4 @@
 -- `kozempil::kozempil_register_length` returns what the calendar says.
-use borrow.Author.Rules.{rules}
 use Rattle.kozempil.proofs.kozempil_register_length.Goals as goal
 
 pub returns : goal.returns

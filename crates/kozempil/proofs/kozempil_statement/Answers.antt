@@ -1,5 +1,4 @@
 -- `kozempil::kozempil_statement` hands on what `whole` promises.
-use borrow.Author.Rules.{rules}
 use Rattle.kozempil.proofs.kozempil_statement.Goals as goal
 
 pub returns : goal.returns

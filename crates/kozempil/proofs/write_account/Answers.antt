@@ -1,5 +1,4 @@
 -- `kozempil::write_account` writes the row's parts one after the other: `Accounts` puts them together.
-use borrow.Author.Rules.{rules}
 use mathlib.Core.Path.{refl, ◌∙◌}
 use Rattle.kozempil.proofs.Accounts.{row_written}
 use Rattle.kozempil.proofs.write_account.Goals as goal

@@ -1,5 +1,4 @@
 -- `ledger::answer_call` goes by the record's kind: `Records` has the call of each.
-use borrow.Author.Rules.{rules}
 use Rattle.records.proofs.Laws.{month_fits, billing_fits}
 use Rattle.ledger.proofs.Records.{opening_record, repricing_record, billing_record, closing_record}
 use Rattle.ledger.proofs.answer_call.Goals as goal

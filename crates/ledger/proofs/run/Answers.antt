@@ -1,9 +1,8 @@
 -- `ledger::run` reads, answers and writes record after record: `Progress` says what is left, and `Decoding` what a record is.
-use borrow.Author.Tests.{not-true, not-false}
 use mathlib.Core.Path.{refl, sym, ◌∙◌}
 use native.Mathlib.Nat.{le-add_right}
 use Rattle.ledger.proofs.Decoding.{record_is}
-use Rattle.ledger.proofs.Progress.{Running, started, ended, stopped, advance}
+use Rattle.ledger.proofs.Progress.{started, ended, stopped, advance}
 use Rattle.ledger.proofs.Progress.{record_in, record_long, record_fits, call_fits, row_fits, left_in, less, place_fits, readings_in, readings_fit}
 use Rattle.ledger.proofs.run.Goals as goal
 

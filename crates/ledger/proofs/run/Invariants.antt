@@ -1,9 +1,4 @@
-use borrow.Author.Tests.{not-true, not-false}
-use mathlib.Core.Path.{refl, sym, ◌∙◌}
-use native.Mathlib.Nat.{le-add_right}
-use Rattle.ledger.proofs.Decoding.{record_is}
-use Rattle.ledger.proofs.Progress.{Running, started, ended, stopped, advance}
-use Rattle.ledger.proofs.Progress.{record_in, record_long, record_fits, call_fits, row_fits, left_in, less, place_fits, readings_in, readings_fit}
+use Rattle.ledger.proofs.Progress.{Running}
 use Rattle.ledger.proofs.run.Given as goal
 
 abbrev pub invariant-loop-left : goal.invariant-loop-left

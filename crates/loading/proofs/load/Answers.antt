@@ -1,6 +1,5 @@
 -- `loading::load` stores what was read aside where all lines are good: `Reading` has what the definitions say then.
 use mathlib.Core.Path.{refl}
-use borrow.Author.Rules.{rules}
 use Rattle.loading.proofs.Reading.{load_other, load_bad, load_good}
 use Rattle.loading.proofs.load.Goals as goal
 

@@ -1,8 +1,6 @@
 -- `loading::read_line` reads digits after the key of a row: `Reading` has why.
 use mathlib.Core.Path.{sym, ◌∙◌}
-use borrow.Author.Tests.{not-true, not-false}
 use Rattle.loading.proofs.Reading.{line_long, line_other, line_digits}
-use borrow.Author.Rules.{rules}
 use Rattle.loading.proofs.read_line.Goals as goal
 
 pub returns-then-line : goal.returns-then-line

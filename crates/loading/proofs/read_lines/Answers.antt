@@ -1,9 +1,7 @@
 -- `loading::read_lines` reads one line after the other: `Reading` has the step.
-use Prim.Native.Nat.{◌-◌}
 use native.Mathlib.Omega.{arith}
-use borrow.Author.Tests.{not-true, not-false}
 use Rattle.text.proofs.Laws.{place_from}
-use Rattle.loading.proofs.Reading.{Ahead, ahead_first, ahead_none, ahead_end, ahead_bad, ahead_next}
+use Rattle.loading.proofs.Reading.{ahead_first, ahead_none, ahead_end, ahead_bad, ahead_next}
 use Rattle.loading.proofs.read_lines.Goals as goal
 
 pub loop-row-init : goal.loop-row-init

@@ -1,8 +1,5 @@
 use Prim.Native.Nat.{◌-◌}
-use native.Mathlib.Omega.{arith}
-use borrow.Author.Tests.{not-true, not-false}
-use Rattle.text.proofs.Laws.{place_from}
-use Rattle.loading.proofs.Reading.{Ahead, ahead_first, ahead_none, ahead_end, ahead_bad, ahead_next}
+use Rattle.loading.proofs.Reading.{Ahead}
 use Rattle.loading.proofs.read_lines.Given as goal
 
 abbrev pub invariant-loop-row : goal.invariant-loop-row

@@ -1,12 +1,8 @@
 -- `loading::read_periods` stores one period after the other: `Periods` has what a digit decides, and `Reading` the step of the entries.
-use mathlib.Core.Path.{◌≡◌, refl, ◌∙◌}
-use mathlib.Core.List.{map}
-use Prim.Native.Nat.{◌+◌, ◌-◌, ◌≤◌}
+use mathlib.Core.Path.{refl, ◌∙◌}
 use native.Mathlib.Nat.{add-zero}
 use native.Mathlib.Omega.{arith}
-use lib.ListN.{length, drop, length-set}
-use lib.Seq.{sets}
-use Rattle.loading.specs.Loading.{all_period_digits}
+use lib.ListN.{length-set}
 use Rattle.loading.proofs.Periods.{digits_next, digits_low, digits_high}
 use Rattle.loading.proofs.Reading.{store_next, periods_bad, periods_all}
 use Rattle.loading.proofs.read_periods.Goals as goal

@@ -1,13 +1,9 @@
-use mathlib.Core.Path.{◌≡◌, refl, ◌∙◌}
+use mathlib.Core.Path.{◌≡◌}
 use mathlib.Core.List.{map}
 use Prim.Native.Nat.{◌+◌, ◌-◌, ◌≤◌}
-use native.Mathlib.Nat.{add-zero}
-use native.Mathlib.Omega.{arith}
-use lib.ListN.{length, drop, length-set}
+use lib.ListN.{length, drop}
 use lib.Seq.{sets}
 use Rattle.loading.specs.Loading.{all_period_digits}
-use Rattle.loading.proofs.Periods.{digits_next, digits_low, digits_high}
-use Rattle.loading.proofs.Reading.{store_next, periods_bad, periods_all}
 use Rattle.loading.proofs.read_periods.Given as goal
 
 abbrev pub invariant-loop-place : goal.invariant-loop-place

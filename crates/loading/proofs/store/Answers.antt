@@ -1,9 +1,7 @@
 -- `loading::store` copies one entry after the other, or none: `Reading` has the step.
-use mathlib.Core.Path.{◌≡◌, refl}
-use Prim.Native.Nat.{◌-◌, ◌≤◌}
+use mathlib.Core.Path.{refl}
 use native.Mathlib.Omega.{arith}
-use borrow.Author.Tests.{not-true, not-false}
-use lib.ListN.{length, take, length-set}
+use lib.ListN.{length-set}
 use Rattle.loading.proofs.Reading.{copy_none, copy_next, copy_all}
 use Rattle.loading.proofs.store.Goals as goal
 

@@ -1,9 +1,6 @@
-use mathlib.Core.Path.{◌≡◌, refl}
+use mathlib.Core.Path.{◌≡◌}
 use Prim.Native.Nat.{◌-◌, ◌≤◌}
-use native.Mathlib.Omega.{arith}
-use borrow.Author.Tests.{not-true, not-false}
-use lib.ListN.{length, take, length-set}
-use Rattle.loading.proofs.Reading.{copy_none, copy_next, copy_all}
+use lib.ListN.{length, take}
 use Rattle.loading.proofs.store.Given as goal
 
 abbrev pub invariant-loop-place : goal.invariant-loop-place

@@ -33,4 +33,4 @@ returns t c =
     let within = place_within 44 c.args.text.now in
     c.led_by.ensures
     ∙ up_to_more _ _ c.args.text.now _ _ c.if-most-eq0.false c.place_of-comma.ensures (omega arith) c.number_in-first.ensures
-          c.numbers_up_to-rest.ensures
+    c.numbers_up_to-rest.ensures

@@ -1,7 +1,6 @@
 -- `numerals::led_by` asks for the numbers in the order of the definition.
 use borrow.Author.Tests.{eq-eqb, ne_eqb}
 use Rattle.numerals.specs.Joining.{led_by}
-use borrow.Author.Rules.{rules}
 use Rattle.numerals.proofs.led_by.Goals as goal
 
 pub returns-then-first-eq0 : goal.returns-then-first-eq0

@@ -3,7 +3,6 @@ use native.Mathlib.Omega.{arith}
 use lib.ListN.{length-take}
 use Rattle.numerals.proofs.Digits.{read_none, read_some, read_value}
 use Rattle.numerals.proofs.Months.{month_length_lem, month_dash, month_year, month_of_year_lem, month_is}
-use borrow.Author.Rules.{rules}
 use Rattle.numerals.proofs.month_in.Goals as goal
 
 pub returns-then-text-ne-MONTH_LENGTH : goal.returns-then-text-ne-MONTH_LENGTH

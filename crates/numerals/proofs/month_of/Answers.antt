@@ -1,7 +1,6 @@
 -- `numerals::month_of` asks for year and month in the order of the definition.
 use borrow.Author.Tests.{le-leb, lt-leb}
 use Rattle.numerals.specs.Joining.{month_from}
-use borrow.Author.Rules.{rules}
 use Rattle.numerals.proofs.month_of.Goals as goal
 
 pub returns-then-year-lt2000 : goal.returns-then-year-lt2000

@@ -1,9 +1,9 @@
 -- `numerals::number_in` reads one digit after the other: `Digits` has the step.
-use mathlib.Core.Path.{◌≡◌, refl, ◌∙◌}
-use Prim.Native.Nat.{◌≤◌, ◌<◌, ◌-◌, ◌+◌, ◌*◌, ◌^◌}
+use mathlib.Core.Path.{refl, ◌∙◌}
+use Prim.Native.Nat.{◌≤◌, ◌-◌, ◌+◌, ◌*◌, ◌^◌}
 use native.Mathlib.Omega.{arith}
-use lib.ListN.{length, get_or, drop}
-use Rattle.numerals.specs.Numerals.{all_digits, value_after, value_of}
+use lib.ListN.{get_or, drop}
+use Rattle.numerals.specs.Numerals.{value_of}
 use Rattle.numerals.proofs.Digits.{digits_next, digits_low, digits_high, digits_end, value_next, value_end, value_grows}
 use Rattle.numerals.proofs.Digits.{number_empty, number_long, number_no_digits, number_large, number_is}
 use Rattle.numerals.proofs.number_in.Goals as goal

@@ -1,10 +1,7 @@
-use mathlib.Core.Path.{◌≡◌, refl, ◌∙◌}
-use Prim.Native.Nat.{◌≤◌, ◌<◌, ◌-◌, ◌+◌, ◌*◌, ◌^◌}
-use native.Mathlib.Omega.{arith}
-use lib.ListN.{length, get_or, drop}
+use mathlib.Core.Path.{◌≡◌}
+use Prim.Native.Nat.{◌≤◌, ◌<◌, ◌-◌, ◌^◌}
+use lib.ListN.{length, drop}
 use Rattle.numerals.specs.Numerals.{all_digits, value_after, value_of}
-use Rattle.numerals.proofs.Digits.{digits_next, digits_low, digits_high, digits_end, value_next, value_end, value_grows}
-use Rattle.numerals.proofs.Digits.{number_empty, number_long, number_no_digits, number_large, number_is}
 use Rattle.numerals.proofs.number_in.Given as goal
 
 abbrev pub invariant-loop-place : goal.invariant-loop-place

@@ -3,7 +3,6 @@ use mathlib.Core.Path.{sym, ap, ◌∙◌}
 use borrow.Author.Tests.{eq-eqb, ne_eqb}
 use Rattle.numerals.specs.declared.Numbers.{Numbers}
 use Rattle.numerals.proofs.Parts.{numbers_are}
-use borrow.Author.Rules.{rules}
 use Rattle.numerals.proofs.numbers_in.Goals as goal
 
 pub returns-then-numbers-count : goal.returns-then-numbers-count

@@ -1,6 +1,5 @@
 -- `printing::put_digits`: the digits before the last are written by its call of itself. The measure is the most digits, which falls by one.
 use native.Mathlib.Omega.{arith}
-use lib.ListN.{length-set}
 use Rattle.printing.proofs.Writing.{digits_within, wrote_none, wrote_one, wrote_more}
 use Rattle.printing.proofs.+put_digits.Goals as goal
 

@@ -1,5 +1,4 @@
 -- `printing::has_room` asks `fits`.
-use borrow.Author.Rules.{rules}
 use Rattle.printing.proofs.has_room.Goals as goal
 
 pub returns : goal.returns

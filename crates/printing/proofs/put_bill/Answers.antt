@@ -1,5 +1,4 @@
 -- `printing::put_bill` fills in the line's template.
-use borrow.Author.Rules.{rules}
 use Rattle.printing.proofs.Laws.{bill_most, bill_line_lem}
 use Rattle.printing.proofs.put_bill.Goals as goal
 

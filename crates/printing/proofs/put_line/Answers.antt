@@ -1,5 +1,4 @@
 -- `printing::put_line` fills in the line's template.
-use borrow.Author.Rules.{rules}
 use Rattle.printing.specs.Printing.{line_text}
 use Rattle.printing.proofs.Laws.{line_most}
 use Rattle.printing.proofs.put_line.Goals as goal

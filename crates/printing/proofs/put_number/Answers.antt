@@ -1,5 +1,4 @@
 -- `printing::put_number`: where 20 bytes are left, so many digits have room.
-use borrow.Author.Rules.{rules}
 use Rattle.printing.proofs.Writing.{put_none, put_wrote, room_for}
 use mathlib.Core.Path.{ap}
 use mathlib.Core.Bool.{not}

@@ -1,5 +1,4 @@
 -- `printing::put_open` fills in the line's template.
-use borrow.Author.Rules.{rules}
 use Rattle.printing.specs.Printing.{open_text}
 use Rattle.printing.proofs.Laws.{open_most}
 use Rattle.printing.proofs.put_open.Goals as goal

@@ -1,10 +1,7 @@
 -- `printing::put_text`: what is left of the template is still to be filled in, and has room.
-use Prim.Native.Nat.{◌-◌}
 use native.Mathlib.Omega.{arith}
-use lib.ListN.{length}
-use borrow.Author.Rules.{rules}
 use Rattle.printing.proofs.Writing.{put_none, put_wrote, room_for}
-use Rattle.printing.proofs.Filling.{Filling, starts, ends, room_byte, room_mark, then_byte, then_none, then_number}
+use Rattle.printing.proofs.Filling.{starts, ends, room_byte, room_mark, then_byte, then_none, then_number}
 use mathlib.Core.Path.{ap}
 use mathlib.Core.Bool.{not}
 use Rattle.printing.proofs.put_text.Goals as goal

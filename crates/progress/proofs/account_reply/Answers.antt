@@ -1,5 +1,4 @@
 -- `progress::account_reply` gives the account the terms, the prices and the month.
-use borrow.Author.Rules.{rules}
 use Rattle.progress.proofs.Opening.{account_answers}
 use Rattle.progress.proofs.account_reply.Goals as goal
 

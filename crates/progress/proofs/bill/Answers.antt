@@ -2,10 +2,6 @@
 use mathlib.Core.Path.{◌∙◌}
 use Rattle.progress.proofs.Lines.{least_long, least_taken}
 use borrow.Author.Rules.{rules}
-use Rattle.progress.proofs.bill.Reads as reads
-use Rattle.progress.proofs.bill.Lts as lts
-use Rattle.account.proofs.Account.billing.Reads as billing-reads
-use Rattle.progress.proofs.readings.Reads as readings-reads
 use Rattle.progress.proofs.bill.Goals as goal
 
 -- src/lib.rt:249:9

@@ -7,11 +7,6 @@ use Rattle.progress.specs.Progressing.{state_of}
 use Rattle.progress.proofs.Lines.{quiet, ends_by}
 use Rattle.lines.proofs.Laws.{bill_no, bill_yes}
 use borrow.Author.Rules.{rules}
-use Rattle.progress.proofs.bill_line.Reads as reads
-use Rattle.progress.proofs.bill_line.Lts as lts
-use Rattle.grammar.proofs.bill_line.Reads as bill-line-reads
-use Rattle.progress.proofs.begin_month.Reads as begin-month-reads
-use Rattle.progress.proofs.fault_at.Reads as fault-at-reads
 use Rattle.progress.proofs.bill_line.Goals as goal
 
 -- src/lib.rt:171:9

@@ -1,9 +1,6 @@
 -- `progress::count` changes the number alone.
 use Rattle.lines.specs.Statement.{counted}
 use borrow.Author.Rules.{rules}
-use Rattle.progress.proofs.count.Reads as reads
-use Rattle.progress.proofs.count.Lts as lts
-use Rattle.progress.proofs.next_number.Reads as next-number-reads
 use Rattle.progress.proofs.count.Goals as goal
 
 -- src/lib.rt:61:5

@@ -1,16 +1,9 @@
 -- `progress::critical_line` stops at an unreadable line.
-use mathlib.Core.Path.{◌∙◌, ap, sym}
-use mathlib.Core.List.{[]}
 use Rattle.grammar.specs.Grammar.{critical_line}
-use Rattle.lines.specs.Statement.{outcome}
 use Rattle.progress.specs.Progressing.{state_of}
 use Rattle.progress.proofs.Lines.{quiet, ends_by}
 use Rattle.lines.proofs.Laws.{critical_no, critical_yes}
 use borrow.Author.Rules.{rules}
-use Rattle.progress.proofs.critical_line.Reads as reads
-use Rattle.progress.proofs.critical_line.Lts as lts
-use Rattle.grammar.proofs.critical_line.Reads as critical-line-reads
-use Rattle.progress.proofs.fault_at.Reads as fault-at-reads
 use Rattle.progress.proofs.critical_line.Goals as goal
 
 -- src/lib.rt:186:9

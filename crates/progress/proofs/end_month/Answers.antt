@@ -2,10 +2,6 @@
 use Rattle.progress.specs.Progressing.{state_of}
 use Rattle.progress.proofs.Lines.{month_ends}
 use borrow.Author.Rules.{rules}
-use Rattle.progress.proofs.end_month.Reads as reads
-use Rattle.progress.proofs.end_month.Lts as lts
-use Rattle.printing.proofs.put_bill.Reads as put-bill-reads
-use Rattle.progress.proofs.bill.Reads as bill-reads
 use Rattle.progress.proofs.end_month.Goals as goal
 
 -- src/lib.rt:270:9

@@ -4,12 +4,6 @@ use Rattle.progress.proofs.Storing.{ends_same}
 use Rattle.progress.proofs.Lines.{quiet, ends_by}
 use Rattle.lines.proofs.Laws.{expected_opening, expected_bill, expected_critical, expected_later, expected_none}
 use borrow.Author.Rules.{rules}
-use Rattle.progress.proofs.expected_line.Reads as reads
-use Rattle.progress.proofs.expected_line.Lts as lts
-use Rattle.progress.proofs.bill_line.Reads as bill-line-reads
-use Rattle.progress.proofs.critical_line.Reads as critical-line-reads
-use Rattle.progress.proofs.run_or_bill_line.Reads as run-or-bill-line-reads
-use Rattle.progress.proofs.opening_line.Reads as opening-line-reads
 use Rattle.progress.proofs.expected_line.Goals as goal
 
 -- src/lib.rt:323:9

@@ -3,9 +3,6 @@ use mathlib.Core.Path.{refl}
 use Rattle.lines.specs.Statement.{fault}
 use Rattle.progress.proofs.Lines.{puts}
 use borrow.Author.Rules.{rules}
-use Rattle.progress.proofs.fault_at.Reads as reads
-use Rattle.progress.proofs.fault_at.Lts as lts
-use Rattle.printing.proofs.put_line.Reads as put-line-reads
 use Rattle.progress.proofs.fault_at.Goals as goal
 
 -- src/lib.rt:74:13

@@ -2,8 +2,6 @@
 use borrow.Author.Tests.{lt-ltb, le-ltb}
 use Rattle.lines.specs.Statement.{next_number}
 use borrow.Author.Rules.{rules}
-use Rattle.progress.proofs.next_number.Reads as reads
-use Rattle.progress.proofs.next_number.Lts as lts
 use Rattle.progress.proofs.next_number.Goals as goal
 
 -- src/lib.rt:51:16

@@ -1,6 +1,5 @@
 -- `progress::next_run` asks one thing after the other: `RunLines` has each.
 use native.Mathlib.Omega.{arith}
-use borrow.Author.Rules.{rules}
 use lib.ListN.{length-take}
 use Rattle.text.proofs.Laws.{place_within}
 use Rattle.progress.proofs.RunLines.{no_newline_lem, no_numbers, no_place, run_there}

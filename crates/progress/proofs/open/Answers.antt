@@ -1,7 +1,6 @@
 -- `progress::open` opens the account and prints its number.
 use Rattle.progress.specs.Progressing.{state_of}
 use Rattle.progress.proofs.Opening.{account_opens}
-use borrow.Author.Rules.{rules}
 use Rattle.progress.proofs.open.Goals as goal
 
 pub returns : goal.returns

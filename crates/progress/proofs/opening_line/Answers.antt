@@ -8,7 +8,6 @@ use Rattle.progress.proofs.Lines.{quiet, ends_by}
 use Rattle.progress.proofs.Opening.{line_kept}
 use Rattle.lines.proofs.Opening.{line_few}
 use Rattle.lines.proofs.Laws.{opening_no, opening_more, opening_last}
-use borrow.Author.Rules.{rules}
 use Rattle.progress.proofs.opening_line.Goals as goal
 
 pub returns-then-numbers-eq0 : goal.returns-then-numbers-eq0

@@ -3,11 +3,6 @@ use Rattle.progress.proofs.Storing.{ends_same}
 use Rattle.progress.proofs.Lines.{ends_by}
 use Rattle.progress.proofs.Runs.{run_past, run_fits}
 use borrow.Author.Rules.{rules}
-use Rattle.progress.proofs.run_of.Reads as reads
-use Rattle.progress.proofs.run_of.Lts as lts
-use Rattle.progress.proofs.store.Reads as store-reads
-use Rattle.progress.proofs.readings.Reads as readings-reads
-use Rattle.progress.proofs.fault_at.Reads as fault-at-reads
 use Rattle.progress.proofs.run_of.Goals as goal
 
 -- src/lib.rt:231:9

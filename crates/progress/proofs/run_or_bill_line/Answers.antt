@@ -4,14 +4,6 @@ use Rattle.progress.proofs.Storing.{ends_same}
 use Rattle.progress.proofs.Lines.{ends_by, month_begins}
 use Rattle.lines.proofs.Laws.{later_run, later_no, later_bill}
 use borrow.Author.Rules.{rules}
-use Rattle.progress.proofs.run_or_bill_line.Reads as reads
-use Rattle.progress.proofs.run_or_bill_line.Lts as lts
-use Rattle.grammar.proofs.bill_line.Reads as bill-line-reads
-use Rattle.grammar.proofs.run_line.Reads as run-line-reads
-use Rattle.progress.proofs.begin_month.Reads as begin-month-reads
-use Rattle.progress.proofs.end_month.Reads as end-month-reads
-use Rattle.progress.proofs.run_of.Reads as run-of-reads
-use Rattle.progress.proofs.fault_at.Reads as fault-at-reads
 use Rattle.progress.proofs.run_or_bill_line.Goals as goal
 
 -- src/lib.rt:293:9

@@ -1,9 +1,7 @@
 -- `progress::store` stores one reading after the other: `Storing` has the step.
 use mathlib.Core.Path.{◌≡◌, refl, ◌∙◌}
-use Prim.Native.Nat.{◌≤◌, ◌-◌}
 use native.Mathlib.Omega.{arith}
-use lib.ListN.{length, replicate, length-set}
-use lib.Seq.{sets}
+use lib.ListN.{length-set}
 use Rattle.progress.proofs.Storing.{stored_none, stored_more}
 use Rattle.progress.proofs.store.Goals as goal
 

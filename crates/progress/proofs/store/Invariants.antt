@@ -1,9 +1,7 @@
-use mathlib.Core.Path.{◌≡◌, refl, ◌∙◌}
+use mathlib.Core.Path.{◌≡◌}
 use Prim.Native.Nat.{◌≤◌, ◌-◌}
-use native.Mathlib.Omega.{arith}
-use lib.ListN.{length, replicate, length-set}
+use lib.ListN.{length, replicate}
 use lib.Seq.{sets}
-use Rattle.progress.proofs.Storing.{stored_none, stored_more}
 use Rattle.progress.proofs.store.Given as goal
 
 abbrev pub invariant-loop-place : goal.invariant-loop-place

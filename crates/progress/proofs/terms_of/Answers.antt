@@ -1,11 +1,8 @@
 -- `progress::terms_of` reads the numbers of lines 2 to 6; of two words 0 is the first.
 use mathlib.Core.Path.{◌≡◌, ◌∙◌, sym}
-use mathlib.Core.Bool.{cond}
 use borrow.Author.Tests.{eq-eqb, ne_eqb}
-use lib.Dec.{eqb}
 use lib.ListN.{get_or}
 use Rattle.lines.specs.Opening.{rider_of, class_of, opening_terms}
-use borrow.Author.Rules.{rules}
 use Rattle.progress.proofs.terms_of.Goals as goal
 use Rattle.progress.proofs.terms_of.Goals.{Joined-values-eq0, Joined-values-eq0-2, then-values-eq0, else-values-eq0, then-values-eq0-2, else-values-eq0-2}
 

@@ -1,7 +1,5 @@
 -- `progress::with_nameplates` puts how many nameplates there are and then eight numbers where the definition does.
 use mathlib.Core.Path.{refl}
-use native.Mathlib.Omega.{arith}
-use borrow.Author.Rules.{rules}
 use Rattle.progress.specs.Ending.{values_with}
 use Rattle.progress.proofs.with_nameplates.Goals as goal
 

@@ -1,6 +1,5 @@
 -- `progress::with_values` puts the numbers where the definition does: `Opening` has the table of places.
 use native.Mathlib.Omega.{arith}
-use borrow.Author.Rules.{rules}
 use Rattle.progress.proofs.Opening.{place_below, four_put, one_put}
 use Rattle.progress.proofs.with_values.Goals as goal
 

@@ -1,5 +1,4 @@
 -- `records::nameplates_at` reads eight numbers.
-use borrow.Author.Rules.{rules}
 use Rattle.records.proofs.nameplates_at.Goals as goal
 
 pub number_from-first-requires : goal.number_from-first-requires

@@ -1,5 +1,4 @@
 -- `records::number_from` reads within the record, and past its end there is 0.
-use borrow.Author.Rules.{rules}
 use mathlib.Core.Path.{sym}
 use native.Mathlib.Omega.{arith}
 use lib.ListN.{get_or-eq_default}

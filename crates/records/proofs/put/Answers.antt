@@ -1,5 +1,4 @@
 -- `records::put` writes nothing past the end, as `set` does.
-use borrow.Author.Rules.{rules}
 use mathlib.Core.Path.{sym}
 use lib.Seq.{set_out}
 use Rattle.records.proofs.put.Goals as goal

@@ -1,10 +1,8 @@
 -- `records::write_numbers` writes the numbers one after the other: `Writing` has the step. Past the buffer's end there is nothing to write.
-use mathlib.Core.Path.{◌≡◌, refl, ◌∙◌, sym}
-use Prim.Native.Nat.{◌≤◌, ◌-◌, ◌+◌}
+use mathlib.Core.Path.{refl, ◌∙◌, sym}
+use Prim.Native.Nat.{◌+◌}
 use native.Mathlib.Nat.{add-zero}
 use native.Mathlib.Omega.{arith}
-use lib.ListN.{length, drop}
-use lib.Seq.{sets}
 use Rattle.text.proofs.Lists.{sets-out}
 use Rattle.records.proofs.Writing.{put_next, all_put}
 use Rattle.records.proofs.write_numbers.Goals as goal

@@ -1,11 +1,7 @@
-use mathlib.Core.Path.{◌≡◌, refl, ◌∙◌, sym}
+use mathlib.Core.Path.{◌≡◌}
 use Prim.Native.Nat.{◌≤◌, ◌-◌, ◌+◌}
-use native.Mathlib.Nat.{add-zero}
-use native.Mathlib.Omega.{arith}
 use lib.ListN.{length, drop}
 use lib.Seq.{sets}
-use Rattle.text.proofs.Lists.{sets-out}
-use Rattle.records.proofs.Writing.{put_next, all_put}
 use Rattle.records.proofs.write_numbers.Given as goal
 
 abbrev pub invariant-loop-place : goal.invariant-loop-place

@@ -1,6 +1,5 @@
 -- `records::write_terms` lists the terms in their order, riders, classes and yes or no by their codes.
 use mathlib.Core.Path.{refl}
-use borrow.Author.Rules.{rules}
 use Rattle.records.specs.Sections.{terms_numbers}
 use Rattle.records.proofs.write_terms.Goals as goal
 

@@ -1,7 +1,6 @@
 -- `refusals::billing_row` asks the rows of a closing and then rows 11, 7, 8, 9, 10 and 13.
 use mathlib.Core.Path.{◌≡◌}
 use mathlib.Core.Bool.{cond}
-use borrow.Author.Rules.{rules}
 use borrow.Author.Tests.{lt-ltb, le-ltb, eq-eqb, ne_eqb}
 use Rattle.refusals.specs.Table.{billing_row}
 use Rattle.refusals.proofs.Rows.{first_row, later_row}

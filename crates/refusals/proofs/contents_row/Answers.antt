@@ -1,5 +1,4 @@
 -- `refusals::contents_row` asks rows 4, 12, 5 and 6 in turn.
-use borrow.Author.Rules.{rules}
 use Rattle.refusals.specs.Table.{contents_rows}
 use Rattle.refusals.proofs.contents_row.Goals as goal
 

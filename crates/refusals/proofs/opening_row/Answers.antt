@@ -1,5 +1,4 @@
 -- `refusals::opening_row` asks rows 2 and 3, the checks of the contents and row 7 in turn.
-use borrow.Author.Rules.{rules}
 use borrow.Author.Tests.{lt-ltb, le-ltb}
 use Rattle.refusals.specs.Table.{opening_row}
 use Rattle.refusals.proofs.Laws.{contents_first, contents_later}

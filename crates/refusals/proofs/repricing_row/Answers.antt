@@ -1,6 +1,4 @@
 -- `refusals::repricing_row` asks the rows of a closing and then row 4.
-use borrow.Author.Rules.{rules}
-use mathlib.Core.Path.{◌∙◌, sym}
 use Rattle.refusals.specs.Table.{repricing_row}
 use Rattle.refusals.proofs.Rows.{first_row, later_row}
 use Rattle.refusals.proofs.repricing_row.Goals as goal

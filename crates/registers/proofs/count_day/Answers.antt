@@ -1,11 +1,9 @@
 -- `registers::count_day` counts stretch after stretch: `Counting` has the start and the end.
 use mathlib.Core.Path.{◌≡◌, ◌∙◌}
-use Prim.Native.Nat.{◌≤◌, ◌-◌, ◌+◌, ◌%◌}
+use Prim.Native.Nat.{◌+◌}
 use native.Mathlib.Omega.{arith}
-use borrow.Author.Rules.{rules}
 use Rattle.calendar.specs.Calendar.{day_length}
 use Rattle.calendar.proofs.Laws.{length_by-ge, length_by-even, day_length-is}
-use Rattle.registers.specs.Counting.{DayCounted}
 use Rattle.registers.proofs.Counting.{day_start, day_end}
 use Rattle.registers.proofs.count_day.Goals as goal
 

@@ -1,11 +1,6 @@
-use mathlib.Core.Path.{◌≡◌, ◌∙◌}
-use Prim.Native.Nat.{◌≤◌, ◌-◌, ◌+◌, ◌%◌}
-use native.Mathlib.Omega.{arith}
-use borrow.Author.Rules.{rules}
-use Rattle.calendar.specs.Calendar.{day_length}
-use Rattle.calendar.proofs.Laws.{length_by-ge, length_by-even, day_length-is}
+use mathlib.Core.Path.{◌≡◌}
+use Prim.Native.Nat.{◌≤◌, ◌-◌, ◌%◌}
 use Rattle.registers.specs.Counting.{DayCounted}
-use Rattle.registers.proofs.Counting.{day_start, day_end}
 use Rattle.registers.proofs.count_day.Given as goal
 
 abbrev pub invariant-loop-from : goal.invariant-loop-from

@@ -1,12 +1,10 @@
 -- `registers::count_month` counts day after day: `Counting` has the start, and `count_day` each day.
-use Prim.Native.Nat.{◌≤◌, ◌<◌, ◌-◌, ◌+◌}
+use Prim.Native.Nat.{◌<◌, ◌+◌}
 use native.Mathlib.Nat.{le_refl}
 use mathlib.Core.Path.{◌≡◌, ◌∙◌}
 use native.Mathlib.Omega.{arith}
-use borrow.Author.Rules.{rules}
-use Rattle.calendar.specs.Calendar.{days_in, clock_of, day_length, readings_through}
+use Rattle.calendar.specs.Calendar.{days_in, clock_of, day_length}
 use Rattle.calendar.proofs.Laws.{days_in-le, clock_of-is, day_length-is, month_length-le, through_none, through_more}
-use Rattle.registers.specs.Counting.{Counted}
 use Rattle.registers.proofs.Counting.{month_start, in_month}
 use Rattle.registers.proofs.count_month.Goals as goal
 use Rattle.registers.proofs.count_month.Goals.{After-clock_on-clock, After-length_by-start}

@@ -1,13 +1,11 @@
 -- `registers::count_stretch` adds a day's readings pair by pair: `Counting` has the step.
 use mathlib.Core.Path.{◌≡◌, refl}
-use Prim.Native.Nat.{ℕ, ◌≤◌, ◌<◌, ◌-◌, ◌+◌, ◌%◌}
+use Prim.Native.Nat.{ℕ, ◌≤◌, ◌<◌, ◌-◌, ◌+◌}
 use native.Mathlib.Omega.{arith}
-use borrow.Author.Rules.{rules}
 use lib.ListN.{length}
 use Rattle.calendar.specs.Calendar.{season_of, day_kind_of, quarter_of}
 use Rattle.calendar.proofs.Laws.{days_in-le, day_length-le, quarter_of-lt, quarter_of-is}
 use Rattle.hours.proofs.Laws.{row_start-le, period_is}
-use Rattle.registers.specs.Counting.{DayCounted}
 use Rattle.registers.proofs.Counting.{pair_step, in_month, room}
 use Rattle.registers.proofs.count_stretch.Goals as goal
 use Rattle.registers.proofs.count_stretch.Goals.{In-loop-place}

@@ -1,13 +1,6 @@
-use mathlib.Core.Path.{◌≡◌, refl}
-use Prim.Native.Nat.{ℕ, ◌≤◌, ◌<◌, ◌-◌, ◌+◌, ◌%◌}
-use native.Mathlib.Omega.{arith}
-use borrow.Author.Rules.{rules}
-use lib.ListN.{length}
-use Rattle.calendar.specs.Calendar.{season_of, day_kind_of, quarter_of}
-use Rattle.calendar.proofs.Laws.{days_in-le, day_length-le, quarter_of-lt, quarter_of-is}
-use Rattle.hours.proofs.Laws.{row_start-le, period_is}
+use mathlib.Core.Path.{◌≡◌}
+use Prim.Native.Nat.{◌≤◌, ◌-◌, ◌%◌}
 use Rattle.registers.specs.Counting.{DayCounted}
-use Rattle.registers.proofs.Counting.{pair_step, in_month, room}
 use Rattle.registers.proofs.count_stretch.Given as goal
 
 abbrev pub invariant-loop-place : goal.invariant-loop-place

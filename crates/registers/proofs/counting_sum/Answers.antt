@@ -1,5 +1,4 @@
 -- `registers::counting_sum` makes the definition's test by two comparisons.
-use borrow.Author.Rules.{rules}
 use Rattle.hours.proofs.Laws.{is-peak, not-peak}
 use Rattle.registers.proofs.counting_sum.Goals as goal
 

@@ -1,5 +1,4 @@
 -- `registers::day_view` hands back a part of a lent register: `View` says which.
-use borrow.Author.Rules.{rules}
 use mathlib.Core.Path.{refl}
 use Prim.Native.Nat.{◌+◌, ◌≤◌}
 use native.Mathlib.Omega.{arith}

@@ -1,5 +1,4 @@
 -- `registers::empty_view` makes the definition's tests in turn.
-use borrow.Author.Rules.{rules}
 use borrow.Author.Tests.{lt-ltb, le-ltb}
 use Rattle.registers.specs.DayView.{empty_view}
 use Rattle.registers.proofs.Laws.{wrong_length, right_length}

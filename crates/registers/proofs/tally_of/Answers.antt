@@ -1,5 +1,4 @@
 -- `registers::tally_of` refuses a register of another length, and else counts the month.
-use borrow.Author.Rules.{rules}
 use mathlib.Core.Path.{refl}
 use Rattle.registers.proofs.Counting.{power_fits, wrong_tally, right_tally}
 use native.Mathlib.Omega.{arith}

@@ -1,11 +1,9 @@
 -- `session::keep` stores one byte after the other: `Keeping` has the step.
-use mathlib.Core.Path.{◌≡◌, refl, ◌∙◌}
-use Prim.Native.Nat.{◌≤◌, ◌-◌, ◌+◌}
+use mathlib.Core.Path.{refl, ◌∙◌}
+use Prim.Native.Nat.{◌+◌}
 use native.Mathlib.Omega.{arith}
 use borrow.Author.Rules.{rules}
-use lib.ListN.{length, get_or, take, length-set}
-use lib.Seq.{sets}
-use Rattle.lines.specs.Feeding.{kept_bytes}
+use lib.ListN.{get_or, length-set}
 use Rattle.session.proofs.Keeping.{stored_more, all_stored}
 use Rattle.session.proofs.keep.Goals as goal
 

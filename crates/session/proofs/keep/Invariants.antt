@@ -1,11 +1,8 @@
-use mathlib.Core.Path.{◌≡◌, refl, ◌∙◌}
-use Prim.Native.Nat.{◌≤◌, ◌-◌, ◌+◌}
-use native.Mathlib.Omega.{arith}
-use borrow.Author.Rules.{rules}
-use lib.ListN.{length, get_or, take, length-set}
+use mathlib.Core.Path.{◌≡◌}
+use Prim.Native.Nat.{◌≤◌, ◌-◌}
+use lib.ListN.{length, take}
 use lib.Seq.{sets}
 use Rattle.lines.specs.Feeding.{kept_bytes}
-use Rattle.session.proofs.Keeping.{stored_more, all_stored}
 use Rattle.session.proofs.keep.Given as goal
 
 abbrev pub invariant-loop-place : goal.invariant-loop-place

@@ -1,5 +1,4 @@
 -- `session::read_held` reads the front of a buffer.
-use borrow.Author.Rules.{rules}
 use native.Mathlib.Omega.{arith}
 use lib.ListN.{length-take}
 use Rattle.session.proofs.read_held.Goals as goal

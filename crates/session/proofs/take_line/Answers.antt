@@ -1,5 +1,5 @@
 -- `session::take_line` keeps the bytes before a newline and reads the line that it ends: `Turns` has both cases.
-use mathlib.Core.Path.{refl, sym}
+use mathlib.Core.Path.{refl}
 use borrow.Author.Rules.{rules}
 use native.Mathlib.Omega.{arith}
 use lib.ListN.{length-take}

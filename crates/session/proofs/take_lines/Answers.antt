@@ -1,5 +1,4 @@
 -- `session::take_lines` takes run lines only where no byte is held: `Running` has both cases.
-use borrow.Author.Rules.{rules}
 use Rattle.session.proofs.Running.{takes_line, none_held}
 use Rattle.session.proofs.take_lines.Goals as goal
 

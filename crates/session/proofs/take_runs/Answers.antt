@@ -1,6 +1,5 @@
 -- `session::take_runs` takes run lines, or one line: `Running` has both cases.
 use mathlib.Core.Path.{refl}
-use borrow.Author.Rules.{rules}
 use Rattle.progress.specs.Progressing.{state_of}
 use Rattle.lines.proofs.Buffers.{readings_same}
 use Rattle.session.proofs.Running.{takes_runs, takes_none}

@@ -1,5 +1,4 @@
 -- `sharing::share` reads the six moves off, and each sum is a part of one credit or of one need, so it fits.
-use borrow.Author.Rules.{rules}
 use native.Mathlib.Omega.{arith}
 use Rattle.sharing.proofs.Moves.{made_spent, made_met, made_is}
 use Rattle.sharing.proofs.share.Goals as goal

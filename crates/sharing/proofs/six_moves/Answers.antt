@@ -1,5 +1,4 @@
 -- `sharing::six_moves`: each call is one move, from what the calls before it left.
-use borrow.Author.Rules.{rules}
 use Rattle.sharing.proofs.six_moves.Goals as goal
 
 pub returns : goal.returns

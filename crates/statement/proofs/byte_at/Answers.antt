@@ -1,6 +1,5 @@
 -- `statement::byte_at` is 0 past the end.
 use mathlib.Core.Path.{sym}
-use borrow.Author.Rules.{rules}
 use lib.ListN.{get_or-eq_default}
 use Rattle.statement.proofs.byte_at.Goals as goal
 

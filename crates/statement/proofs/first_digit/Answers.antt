@@ -1,7 +1,6 @@
 -- `statement::first_digit` looks where the line's first byte says.
 use mathlib.Core.Path.{◌≡◌, ◌∙◌, sym, ap}
 use mathlib.Core.Bool.{Bool, cond}
-use borrow.Author.Rules.{rules}
 use borrow.Author.Tests.{eq-eqb, ne_eqb}
 use lib.ListN.{get_or}
 use Rattle.statement.proofs.first_digit.Goals as goal

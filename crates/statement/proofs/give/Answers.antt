@@ -1,11 +1,9 @@
 -- `statement::give` gives a session all bytes, piece by piece: `Giving` has the steps.
-use mathlib.Core.Path.{◌≡◌, refl, ◌∙◌}
+use mathlib.Core.Path.{refl, ◌∙◌}
 use mathlib.Core.List.{[]}
-use Prim.Native.Nat.{◌-◌}
 use native.Mathlib.Omega.{arith}
-use lib.ListN.{length}
 use Rattle.session.specs.Sessions.{lent, so_far_of}
-use Rattle.statement.proofs.Giving.{still_fits, GivenSoFar, given_none, given_some, given_inside, given_more, given_all, given_up}
+use Rattle.statement.proofs.Giving.{still_fits, given_none, given_some, given_inside, given_more, given_all, given_up}
 use Rattle.statement.proofs.give.Goals as goal
 
 pub loop-taken-init : goal.loop-taken-init

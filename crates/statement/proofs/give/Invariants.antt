@@ -1,10 +1,8 @@
-use mathlib.Core.Path.{◌≡◌, refl, ◌∙◌}
-use mathlib.Core.List.{[]}
+use mathlib.Core.Path.{◌≡◌}
 use Prim.Native.Nat.{◌-◌}
-use native.Mathlib.Omega.{arith}
 use lib.ListN.{length}
 use Rattle.session.specs.Sessions.{lent, so_far_of}
-use Rattle.statement.proofs.Giving.{still_fits, GivenSoFar, given_none, given_some, given_inside, given_more, given_all, given_up}
+use Rattle.statement.proofs.Giving.{GivenSoFar}
 use Rattle.statement.proofs.give.Given as goal
 
 abbrev pub invariant-loop-taken : goal.invariant-loop-taken

@@ -1,6 +1,5 @@
 -- `statement::line_at` looks for the newline.
 use native.Mathlib.Omega.{arith}
-use borrow.Author.Rules.{rules}
 use Rattle.statement.proofs.Lines.{line_within, line_last, line_more}
 use Rattle.statement.proofs.line_at.Goals as goal
 

@@ -1,15 +1,10 @@
 -- `statement::statement_print` is safe and ends: the measure is the number of turns that are left. The session stands for the bytes that it was given,
 -- one piece after the other, and the status for what they print; the buffers keep their lengths.
-use mathlib.Core.Path.{◌≡◌, refl, sym, ◌∙◌}
-use lib.ListN.{length}
-use lib.Seq.{length-take-le}
-use Rattle.session.specs.Sessions.{lent, so_far_of}
+use mathlib.Core.Path.{refl, sym, ◌∙◌}
 use Rattle.statement.specs.Status.{Ends}
 use Rattle.statement.proofs.Lines.{ended}
 use Rattle.statement.proofs.Giving.{still_fits}
-use Rattle.statement.proofs.Reaching.{two_texts, turn_less, Reached, reached_none, reached_more, reached_stop, reached_end}
-use mathlib.Core.Path.{ap}
-use mathlib.Core.Bool.{not}
+use Rattle.statement.proofs.Reaching.{two_texts, turn_less, reached_none, reached_more, reached_stop, reached_end}
 use Rattle.statement.proofs.statement_print.Goals as goal
 
 pub large_buffer-buffer-requires : goal.large_buffer-buffer-requires

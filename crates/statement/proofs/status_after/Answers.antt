@@ -1,6 +1,5 @@
 -- `statement::status_after` asks the tests of `status_after`.
 use mathlib.Core.Path.{◌∙◌, sym}
-use borrow.Author.Rules.{rules}
 use borrow.Author.Tests.{eq-eqb, ne_eqb}
 use lib.ListN.{get_or}
 use Rattle.statement.specs.Status.{number_place, status_after}

@@ -1,11 +1,8 @@
 -- `statement::tell` goes through the lines of a text. What is left of it leads from the status so far to that after the whole.
-use mathlib.Core.Path.{◌≡◌, refl, sym, ap, ◌∙◌}
+use mathlib.Core.Path.{refl, sym, ap, ◌∙◌}
 use mathlib.Core.Bool.{not}
-use Prim.Native.Nat.{◌≤◌, ◌-◌}
 use native.Mathlib.Omega.{arith}
-use borrow.Author.Rules.{rules}
-use lib.ListN.{length, drop, drop_of_length-le}
-use Rattle.statement.specs.Status.{status_from}
+use lib.ListN.{drop_of_length-le}
 use Rattle.statement.proofs.Lines.{status_line, status_none}
 use Rattle.statement.proofs.Giving.{true-false}
 use Rattle.statement.proofs.tell.Goals as goal

@@ -1,11 +1,7 @@
-use mathlib.Core.Path.{◌≡◌, refl, sym, ◌∙◌}
+use mathlib.Core.Path.{◌≡◌}
 use Prim.Native.Nat.{◌≤◌, ◌-◌}
-use native.Mathlib.Omega.{arith}
-use borrow.Author.Rules.{rules}
-use lib.ListN.{length, drop, drop_of_length-le}
+use lib.ListN.{length, drop}
 use Rattle.statement.specs.Status.{status_from}
-use Rattle.statement.proofs.Lines.{status_line, status_none}
-use Rattle.statement.proofs.Giving.{true-false}
 use Rattle.statement.proofs.tell.Given as goal
 
 abbrev pub invariant-loop-place : goal.invariant-loop-place

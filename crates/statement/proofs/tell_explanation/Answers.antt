@@ -1,6 +1,5 @@
 -- `statement::tell_explanation` writes what was put: any explanation fits into the buffer.
 use native.Mathlib.Omega.{arith}
-use borrow.Author.Rules.{rules}
 use lib.ListN.{length-take}
 use Rattle.table.proofs.Laws.{explanation_short, put_within}
 use Rattle.statement.proofs.tell_explanation.Goals as goal

@@ -1,6 +1,5 @@
 -- `statement::tell_front` tells a part of the buffer.
 use native.Mathlib.Omega.{arith}
-use borrow.Author.Rules.{rules}
 use lib.ListN.{length-take}
 use Rattle.statement.proofs.tell_front.Goals as goal
 

@@ -1,6 +1,5 @@
 -- `statement::tell_table` writes what was put: any table fits into the buffer.
 use native.Mathlib.Omega.{arith}
-use borrow.Author.Rules.{rules}
 use lib.ListN.{length-take}
 use Rattle.table.proofs.Laws.{table_short, put_within}
 use Rattle.statement.proofs.tell_table.Goals as goal

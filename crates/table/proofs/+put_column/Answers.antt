@@ -1,6 +1,5 @@
 -- `table::put_column`: the bytes before the last are written by its call of itself. The measure is the width, which falls by one.
 use native.Mathlib.Omega.{arith}
-use lib.ListN.{length-set}
 use Rattle.table.proofs.Writing.{column_ends, column_none, column_more}
 use Rattle.table.proofs.+put_column.Goals as goal
 

@@ -2,7 +2,6 @@
 use native.Mathlib.Nat.{add-zero}
 use borrow.Author.Tests.{lt-ltb, le-ltb}
 use Rattle.table.specs.Filling.{cell_at}
-use borrow.Author.Rules.{rules}
 use Rattle.table.proofs.cell_of.Goals as goal
 
 pub returns-then-k-lt28 : goal.returns-then-k-lt28

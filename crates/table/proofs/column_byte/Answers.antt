@@ -1,6 +1,5 @@
 -- `table::column_byte` asks in the order of the definition.
 use borrow.Author.Tests.{eq-eqb, ne_eqb}
-use borrow.Author.Rules.{rules}
 use Rattle.table.proofs.column_byte.Goals as goal
 
 pub returns-then-place-eq0 : goal.returns-then-place-eq0

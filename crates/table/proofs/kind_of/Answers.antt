@@ -3,7 +3,6 @@ use lib.ListN.{get_or-eq_default}
 use mathlib.Core.Path.{refl, sym}
 use native.Mathlib.Omega.{arith}
 use Rattle.table.specs.Numbers.{kind_of}
-use borrow.Author.Rules.{rules}
 use Rattle.table.proofs.kind_of.Goals as goal
 
 pub returns-then-line-eq0 : goal.returns-then-line-eq0

@@ -1,9 +1,7 @@
 -- `table::next_number` reads one byte after the other: `Numbers` has the step.
 use mathlib.Core.Path.{◌∙◌, sym}
-use Prim.Native.Nat.{◌-◌}
 use native.Mathlib.Omega.{arith}
-use lib.ListN.{length, drop}
-use Rattle.table.proofs.Numbers.{Reading, read_none, read_digit, read_other, read_end, read_all}
+use Rattle.table.proofs.Numbers.{read_none, read_digit, read_other, read_end, read_all}
 use Rattle.table.proofs.next_number.Goals as goal
 
 pub loop-place-init : goal.loop-place-init

@@ -1,8 +1,6 @@
-use mathlib.Core.Path.{◌∙◌, sym}
 use Prim.Native.Nat.{◌-◌}
-use native.Mathlib.Omega.{arith}
 use lib.ListN.{length, drop}
-use Rattle.table.proofs.Numbers.{Reading, read_none, read_digit, read_other, read_end, read_all}
+use Rattle.table.proofs.Numbers.{Reading}
 use Rattle.table.proofs.next_number.Given as goal
 
 abbrev pub invariant-loop-place : goal.invariant-loop-place

@@ -1,8 +1,7 @@
 -- `table::numbers_of` reads one number after the other: `Numbers` has the step.
-use Prim.Native.Nat.{◌-◌}
 use native.Mathlib.Omega.{arith}
 use mathlib.Core.Path.{refl}
-use Rattle.table.proofs.Numbers.{Collecting, collect_none, collect_next, collect_all}
+use Rattle.table.proofs.Numbers.{collect_none, collect_next, collect_all}
 use Rattle.table.proofs.numbers_of.Goals as goal
 
 pub loop-count-init : goal.loop-count-init

@@ -1,7 +1,5 @@
 use Prim.Native.Nat.{◌-◌}
-use native.Mathlib.Omega.{arith}
-use mathlib.Core.Path.{refl}
-use Rattle.table.proofs.Numbers.{Collecting, collect_none, collect_next, collect_all}
+use Rattle.table.proofs.Numbers.{Collecting}
 use Rattle.table.proofs.numbers_of.Given as goal
 
 abbrev pub invariant-loop-count : goal.invariant-loop-count

@@ -1,7 +1,6 @@
 -- `table::plain_value` asks in the order of the definition.
 use borrow.Author.Tests.{eq-eqb, ne_eqb}
 use Rattle.table.specs.Filling.{plain_value}
-use borrow.Author.Rules.{rules}
 use Rattle.table.proofs.plain_value.Goals as goal
 
 pub returns-in-0 : goal.returns-in-0

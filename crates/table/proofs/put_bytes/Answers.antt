@@ -1,9 +1,7 @@
 -- `table::put_bytes`: what is left of the bytes is still to be written.
-use mathlib.Core.Path.{◌≡◌, refl}
-use Prim.Native.Nat.{◌+◌, ◌-◌, ◌≤◌}
+use mathlib.Core.Path.{refl}
 use native.Mathlib.Omega.{arith}
-use lib.ListN.{length, drop, length-set}
-use lib.Seq.{sets}
+use lib.ListN.{length-set}
 use Rattle.table.proofs.Writing.{bytes_next, bytes_all}
 use Rattle.table.proofs.put_bytes.Goals as goal
 

@@ -1,9 +1,7 @@
-use mathlib.Core.Path.{◌≡◌, refl}
+use mathlib.Core.Path.{◌≡◌}
 use Prim.Native.Nat.{◌+◌, ◌-◌, ◌≤◌}
-use native.Mathlib.Omega.{arith}
-use lib.ListN.{length, drop, length-set}
+use lib.ListN.{length, drop}
 use lib.Seq.{sets}
-use Rattle.table.proofs.Writing.{bytes_next, bytes_all}
 use Rattle.table.proofs.put_bytes.Given as goal
 
 abbrev pub invariant-loop-place : goal.invariant-loop-place

@@ -1,6 +1,5 @@
 -- `table::put_chosen` takes a template and a reason by its tables of places: `Texts` has what each is.
 use Rattle.table.proofs.Texts.{text_order, text_inside, reason_order, reason_inside, text_room_lem, reason_short, first_few, text_wrote}
-use borrow.Author.Rules.{rules}
 use Rattle.table.proofs.put_chosen.Goals as goal
 
 pub slice_bounds-put_filled-count : goal.slice_bounds-put_filled-count

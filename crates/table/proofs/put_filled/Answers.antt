@@ -1,9 +1,6 @@
 -- `table::put_filled`: what is left of the template is still to be filled in, and has room.
-use Prim.Native.Nat.{◌-◌}
 use native.Mathlib.Omega.{arith}
-use lib.ListN.{length}
-use Rattle.table.specs.Filling.{marked_by}
-use Rattle.table.proofs.Filling.{Filling, starts, ends, room_mark, room_reason, room_byte, then_mark, then_reason, then_byte, marked_length}
+use Rattle.table.proofs.Filling.{starts, ends, room_mark, room_reason, room_byte, then_mark, then_reason, then_byte, marked_length}
 use Rattle.table.proofs.put_filled.Goals as goal
 
 pub loop-place-init : goal.loop-place-init

@@ -1,8 +1,7 @@
 use Prim.Native.Nat.{◌-◌}
-use native.Mathlib.Omega.{arith}
 use lib.ListN.{length}
 use Rattle.table.specs.Filling.{marked_by}
-use Rattle.table.proofs.Filling.{Filling, starts, ends, room_mark, room_reason, room_byte, then_mark, then_reason, then_byte, marked_length}
+use Rattle.table.proofs.Filling.{Filling}
 use Rattle.table.proofs.put_filled.Given as goal
 
 abbrev pub invariant-loop-place : goal.invariant-loop-place

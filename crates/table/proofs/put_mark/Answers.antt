@@ -5,7 +5,6 @@ use borrow.Author.Tests.{lt-ltb, le-ltb}
 use Rattle.printing.proofs.Writing.{put_there}
 use Rattle.table.specs.Filling.{marked_by}
 use Rattle.table.proofs.Filling.{shows_fit}
-use borrow.Author.Rules.{rules}
 use Rattle.table.proofs.put_mark.Goals as goal
 
 pub returns-then-mark-lt7 : goal.returns-then-mark-lt7

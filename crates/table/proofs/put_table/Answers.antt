@@ -3,7 +3,6 @@ use lib.Dec.{lit≤}
 use Rattle.table.proofs.Reasons.{row_within}
 use Rattle.printing.proofs.Writing.{put_none, put_wrote, room_for}
 use Rattle.table.proofs.Showing.{table_is, table_within}
-use borrow.Author.Rules.{rules}
 use mathlib.Core.Path.{ap}
 use mathlib.Core.Bool.{not}
 use Rattle.table.proofs.put_table.Goals as goal

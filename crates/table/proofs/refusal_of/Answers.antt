@@ -1,7 +1,6 @@
 -- `table::refusal_of` asks in the order of the definition.
 use borrow.Author.Tests.{eq-eqb, ne_eqb}
 use Rattle.table.specs.Numbers.{refusal_of}
-use borrow.Author.Rules.{rules}
 use Rattle.table.proofs.refusal_of.Goals as goal
 
 pub returns-then-kind-eq-OPENING : goal.returns-then-kind-eq-OPENING

@@ -1,7 +1,6 @@
 -- `table::row_of` asks in the order of the definitions.
 use borrow.Author.Tests.{eq-eqb, ne_eqb, le-leb, lt-leb}
 use Rattle.table.specs.Reasons.{opening_row, month_row, row_of}
-use borrow.Author.Rules.{rules}
 use Rattle.table.proofs.row_of.Goals as goal
 
 pub returns-then-kind-eq-STOP : goal.returns-then-kind-eq-STOP

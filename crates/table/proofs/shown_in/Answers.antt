@@ -1,7 +1,6 @@
 -- `table::shown_in` asks in the order of the definition.
 use borrow.Author.Tests.{lt-ltb, le-ltb, eq-eqb, ne_eqb}
 use Rattle.table.specs.Filling.{shown_of}
-use borrow.Author.Rules.{rules}
 use Rattle.table.proofs.shown_in.Goals as goal
 
 pub returns-then-k-lt7 : goal.returns-then-k-lt7

@@ -1,9 +1,8 @@
 -- `table::width_of` looks at the numbers from the last on.
-use mathlib.Core.Path.{◌≡◌, refl}
-use Prim.Native.Nat.{◌≤◌}
+use mathlib.Core.Path.{refl}
 use lib.Dec.{lit≤}
 use native.Mathlib.Omega.{arith}
-use Rattle.table.proofs.Cells.{wide_to, wide_found, wide_next, wide_none}
+use Rattle.table.proofs.Cells.{wide_found, wide_next, wide_none}
 use Rattle.table.proofs.width_of.Goals as goal
 
 pub loop-left-init : goal.loop-left-init

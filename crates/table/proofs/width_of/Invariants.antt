@@ -1,8 +1,6 @@
-use mathlib.Core.Path.{◌≡◌, refl}
+use mathlib.Core.Path.{◌≡◌}
 use Prim.Native.Nat.{◌≤◌}
-use lib.Dec.{lit≤}
-use native.Mathlib.Omega.{arith}
-use Rattle.table.proofs.Cells.{wide_to, wide_found, wide_next, wide_none}
+use Rattle.table.proofs.Cells.{wide_to}
 use Rattle.table.proofs.width_of.Given as goal
 
 abbrev pub invariant-loop-left : goal.invariant-loop-left

@@ -1,6 +1,5 @@
 -- `table::with_digit` asks before it multiplies.
 use Rattle.table.proofs.Numbers.{digit_bounds, digit_over, digit_fits}
-use borrow.Author.Rules.{rules}
 use Rattle.table.proofs.with_digit.Goals as goal
 
 pub overflow_sub-digit : goal.overflow_sub-digit

@@ -1,5 +1,4 @@
 -- `tariff::bridge_refused` asks for a business under the bridge rider alone.
-use borrow.Author.Rules.{rules}
 use Rattle.tariff.specs.Tariff.{bridge_refused}
 use Rattle.tariff.proofs.bridge_refused.Goals as goal
 

@@ -1,5 +1,4 @@
 -- `tariff::capacity_limit` is the limit of the class.
-use borrow.Author.Rules.{rules}
 use Rattle.tariff.specs.Tariff.{capacity_limit}
 use Rattle.tariff.proofs.capacity_limit.Goals as goal
 

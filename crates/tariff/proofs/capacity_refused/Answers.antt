@@ -1,5 +1,4 @@
 -- `tariff::capacity_refused` makes the definition's three tests in turn, on the total as far as it fits 64 bits.
-use borrow.Author.Rules.{rules}
 use Prim.Native.Nat.{◌<◌}
 use native.Mathlib.Omega.{arith}
 use borrow.Author.Tests.{lt-ltb}

@@ -1,5 +1,4 @@
 -- `tariff::prices_refused` makes the tests of refusal 4, the order of the energy prices together with their limit.
-use borrow.Author.Rules.{rules}
 use Rattle.tariff.proofs.Order.{refused_is}
 use Rattle.tariff.proofs.prices_refused.Goals as goal
 

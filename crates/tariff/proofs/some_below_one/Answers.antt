@@ -1,12 +1,9 @@
 -- `tariff::some_below_one` looks at one nameplate after the other: `Nameplates` has the step.
-use mathlib.Core.Path.{◌≡◌, refl, sym, ◌∙◌}
-use mathlib.Core.Bool.{false}
-use Prim.Native.Nat.{◌-◌, ◌≤◌}
+use mathlib.Core.Path.{◌≡◌, refl, sym}
 use native.Mathlib.Numerals.{add-one}
 use native.Mathlib.Omega.{arith}
 use borrow.Author.Rules.{rules}
-use lib.ListN.{length, take}
-use Rattle.tariff.specs.Tariff.{most_nameplates, nameplates_of, some_under, some_below_one}
+use Rattle.tariff.specs.Tariff.{nameplates_of, some_below_one}
 use Rattle.tariff.proofs.Nameplates.{held, under_next, under_at}
 use Rattle.tariff.proofs.some_below_one.Goals as goal
 

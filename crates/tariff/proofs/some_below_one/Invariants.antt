@@ -1,12 +1,8 @@
-use mathlib.Core.Path.{◌≡◌, refl, sym, ◌∙◌}
+use mathlib.Core.Path.{◌≡◌}
 use mathlib.Core.Bool.{false}
 use Prim.Native.Nat.{◌-◌, ◌≤◌}
-use native.Mathlib.Numerals.{add-one}
-use native.Mathlib.Omega.{arith}
-use borrow.Author.Rules.{rules}
 use lib.ListN.{length, take}
-use Rattle.tariff.specs.Tariff.{most_nameplates, nameplates_of, some_under, some_below_one}
-use Rattle.tariff.proofs.Nameplates.{held, under_next, under_at}
+use Rattle.tariff.specs.Tariff.{most_nameplates, some_under}
 use Rattle.tariff.proofs.some_below_one.Given as goal
 
 abbrev pub invariant-loop-place : goal.invariant-loop-place

@@ -1,11 +1,9 @@
 -- `tariff::total_nameplate` adds up one nameplate after the other: `Nameplates` has the step.
 use mathlib.Core.Path.{◌≡◌}
-use Prim.Native.Nat.{suc, ◌-◌, ◌^◌, ◌≤◌, min}
 use native.Mathlib.Numerals.{add-one}
 use native.Mathlib.Omega.{arith}
 use borrow.Author.Rules.{rules}
-use lib.ListN.{length, take}
-use Rattle.tariff.specs.Tariff.{most_nameplates, nameplates_of, total_nameplate, sum_of_all}
+use Rattle.tariff.specs.Tariff.{nameplates_of, total_nameplate}
 use Rattle.tariff.proofs.Nameplates.{held, sum_next}
 use Rattle.tariff.proofs.total_nameplate.Goals as goal
 

@@ -1,11 +1,7 @@
 use mathlib.Core.Path.{◌≡◌}
-use Prim.Native.Nat.{suc, ◌-◌, ◌^◌, ◌≤◌, min}
-use native.Mathlib.Numerals.{add-one}
-use native.Mathlib.Omega.{arith}
-use borrow.Author.Rules.{rules}
+use Prim.Native.Nat.{◌-◌, ◌^◌, ◌≤◌, min}
 use lib.ListN.{length, take}
-use Rattle.tariff.specs.Tariff.{most_nameplates, nameplates_of, total_nameplate, sum_of_all}
-use Rattle.tariff.proofs.Nameplates.{held, sum_next}
+use Rattle.tariff.specs.Tariff.{most_nameplates, sum_of_all}
 use Rattle.tariff.proofs.total_nameplate.Given as goal
 
 abbrev pub invariant-loop-place : goal.invariant-loop-place

@@ -1,9 +1,6 @@
 -- `text::place_of` looks at one byte after the other: `Laws` has the step.
-use mathlib.Core.Path.{◌≡◌, sym, ◌∙◌}
-use Prim.Native.Nat.{◌≤◌, ◌-◌, ◌+◌}
+use mathlib.Core.Path.{sym, ◌∙◌}
 use native.Mathlib.Omega.{arith}
-use lib.ListN.{length, drop}
-use Rattle.text.specs.Text.{place_of}
 use Rattle.text.proofs.Laws.{place_here, place_next, place_end}
 use Rattle.text.proofs.place_of.Goals as goal
 

@@ -1,9 +1,7 @@
-use mathlib.Core.Path.{◌≡◌, sym, ◌∙◌}
+use mathlib.Core.Path.{◌≡◌}
 use Prim.Native.Nat.{◌≤◌, ◌-◌, ◌+◌}
-use native.Mathlib.Omega.{arith}
 use lib.ListN.{length, drop}
 use Rattle.text.specs.Text.{place_of}
-use Rattle.text.proofs.Laws.{place_here, place_next, place_end}
 use Rattle.text.proofs.place_of.Given as goal
 
 abbrev pub invariant-loop-place : goal.invariant-loop-place

@@ -1,6 +1,5 @@
 -- `whole::feed_some` feeds a session a piece, and adds what it wrote: `Adding` has the law.
 use native.Mathlib.Omega.{arith}
-use borrow.Author.Rules.{rules}
 use lib.ListN.{length-take}
 use Rattle.whole.proofs.Adding.{fed_some}
 use Rattle.whole.proofs.feed_some.Goals as goal

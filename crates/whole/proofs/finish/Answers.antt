@@ -1,6 +1,5 @@
 -- `whole::finish` adds what the session writes at the end: `Adding` has the law.
 use native.Mathlib.Omega.{arith}
-use borrow.Author.Rules.{rules}
 use Rattle.whole.proofs.Adding.{finished}
 use Rattle.whole.proofs.finish.Goals as goal
 

@@ -1,13 +1,11 @@
 -- `whole::statement_of` feeds a session until it has taken all or is stopped: `Going` has the steps.
 use mathlib.Core.Path.{refl, sym, ◌∙◌, ap}
 use mathlib.Core.List.{[]}
-use Prim.Native.Nat.{◌-◌}
 use native.Mathlib.Omega.{arith}
-use borrow.Author.Rules.{rules}
 use lib.ListN.{length}
 use lib.Seq.{length-sets}
 use Rattle.session.specs.Sessions.{lent, so_far_of}
-use Rattle.whole.proofs.Going.{Going, going_start, going_more, going_stopped, going_all, same_long, whole_long}
+use Rattle.whole.proofs.Going.{going_start, going_more, going_stopped, going_all, same_long, whole_long}
 use Rattle.whole.proofs.statement_of.Goals as goal
 
 pub loop-taken-init : goal.loop-taken-init

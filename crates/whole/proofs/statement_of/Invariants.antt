@@ -1,12 +1,7 @@
-use mathlib.Core.Path.{refl, sym, ◌∙◌, ap}
-use mathlib.Core.List.{[]}
 use Prim.Native.Nat.{◌-◌}
-use native.Mathlib.Omega.{arith}
-use borrow.Author.Rules.{rules}
 use lib.ListN.{length}
-use lib.Seq.{length-sets}
 use Rattle.session.specs.Sessions.{lent, so_far_of}
-use Rattle.whole.proofs.Going.{Going, going_start, going_more, going_stopped, going_all, same_long, whole_long}
+use Rattle.whole.proofs.Going.{Going}
 use Rattle.whole.proofs.statement_of.Given as goal
 
 abbrev pub invariant-loop-taken : goal.invariant-loop-taken

@@ -1,10 +1,8 @@
 -- `whole::write` stores one byte after the other, as long as they fit: `Writing` has the step.
 use mathlib.Core.Path.{◌≡◌, refl, sym, ◌∙◌, ap}
-use Prim.Native.Nat.{◌≤◌, ◌-◌}
 use native.Mathlib.Omega.{arith}
-use borrow.Author.Rules.{rules}
 use lib.ListN.{length, take}
-use lib.Seq.{sets, length-sets}
+use lib.Seq.{length-sets}
 use Rattle.text.proofs.Lists.{sets-out}
 use Rattle.whole.proofs.Writing.{written_more, all_written}
 use Rattle.whole.proofs.write.Goals as goal

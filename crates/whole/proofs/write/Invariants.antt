@@ -1,11 +1,7 @@
-use mathlib.Core.Path.{◌≡◌, refl, sym, ◌∙◌, ap}
+use mathlib.Core.Path.{◌≡◌}
 use Prim.Native.Nat.{◌≤◌, ◌-◌}
-use native.Mathlib.Omega.{arith}
-use borrow.Author.Rules.{rules}
-use lib.ListN.{length, take}
-use lib.Seq.{sets, length-sets}
-use Rattle.text.proofs.Lists.{sets-out}
-use Rattle.whole.proofs.Writing.{written_more, all_written}
+use lib.ListN.{take}
+use lib.Seq.{sets}
 use Rattle.whole.proofs.write.Given as goal
 
 abbrev pub invariant-loop-written : goal.invariant-loop-written

@@ -1,6 +1,5 @@
 -- `account::Account::billing` asks the rows that need no reading first.
 use Rattle.account.proofs.Tallied.{early_number, refused_reply}
-use borrow.Author.Rules.{rules}
 use mathlib.Core.Path.{refl}
 use Rattle.account.proofs.Account.billing.Goals as goal
 

@@ -1,5 +1,4 @@
 -- `account::Account::closing` goes by its number.
-use borrow.Author.Rules.{rules}
 use borrow.Author.Tests.{eq-eqb, ne_eqb}
 use Rattle.account.specs.Account.{closing_reply}
 use Rattle.account.specs.Refusals.{closing_number}

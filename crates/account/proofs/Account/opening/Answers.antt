@@ -1,5 +1,4 @@
 -- `account::Account::opening` goes by its number.
-use borrow.Author.Rules.{rules}
 use borrow.Author.Tests.{eq-eqb, ne_eqb}
 use Rattle.account.specs.Account.{opening_reply}
 use Rattle.account.specs.Refusals.{opening_number}

@@ -5,7 +5,6 @@ use Rattle.lines.specs.Statement.{at_end}
 use Rattle.progress.specs.Progressing.{state_of}
 use Rattle.progress.proofs.Lines.{put_nothing, puts_by}
 use Rattle.lines.proofs.Laws.{end_opened, end_stopped, end_month, end_absent}
-use borrow.Author.Rules.{rules}
 use Rattle.progress.proofs.Progress.finish.Goals as goal
 
 pub returns-then-self-eq-BILL_EXPECTED : goal.returns-then-self-eq-BILL_EXPECTED

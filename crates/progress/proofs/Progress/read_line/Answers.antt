@@ -4,11 +4,6 @@ use Rattle.progress.specs.Progressing.{state_of}
 use Rattle.lines.proofs.Buffers.{readings_same}
 use Rattle.progress.proofs.Lines.{reads_some, reads_none, read_by}
 use borrow.Author.Rules.{rules}
-use Rattle.progress.proofs.Progress.read_line.Reads as reads
-use Rattle.progress.proofs.Progress.read_line.Lts as lts
-use Rattle.printing.proofs.has_room.Reads as has-room-reads
-use Rattle.progress.proofs.count.Reads as count-reads
-use Rattle.progress.proofs.expected_line.Reads as expected-line-reads
 use Rattle.progress.proofs.Progress.read_line.Goals as goal
 
 -- src/lib.rt:372:12

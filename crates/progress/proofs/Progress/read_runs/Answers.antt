@@ -1,14 +1,13 @@
 -- `progress::Progress::read_runs` takes one run line after the other: `RunLines` has the turns.
 use mathlib.Core.Path.{◌≡◌, refl}
-use Prim.Native.Nat.{◌+◌, ◌-◌, ◌≤◌}
+use Prim.Native.Nat.{◌+◌, ◌-◌}
 use native.Mathlib.Omega.{arith}
-use borrow.Author.Rules.{rules}
 use lib.ListN.{length, take, drop, length-take, length-drop}
 use Rattle.lines.specs.Feeding.{registers_of}
 use Rattle.progress.specs.Progressing.{state_of}
 use Rattle.progress.specs.Ending.{ran_to}
 use Rattle.lines.proofs.Buffers.{readings_same}
-use Rattle.progress.proofs.RunLines.{Running, running_start, running_none, running_all, running_more, loop_start, none_expected, ran_to_lem}
+use Rattle.progress.proofs.RunLines.{running_start, running_none, running_all, running_more, loop_start, none_expected, ran_to_lem}
 use Rattle.progress.proofs.RunLines.{turn_none, turn_expected, turn_bytes, turn_within, turn_fits, turn_state, turn_registers}
 use Rattle.progress.proofs.Progress.read_runs.Goals as goal
 

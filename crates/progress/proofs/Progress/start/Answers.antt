@@ -6,9 +6,6 @@ use Rattle.account.specs.declared.Account.{Account}
 use Rattle.lines.specs.Opening.{opening_length}
 use Rattle.lines.specs.Statement.{state, month_of}
 use borrow.Author.Rules.{rules}
-use Rattle.progress.proofs.Progress.start.Reads as reads
-use Rattle.progress.proofs.Progress.start.Lts as lts
-use Rattle.account.proofs.Account.fresh.Reads as fresh-reads
 use Rattle.progress.proofs.Progress.start.Goals as goal
 
 -- src/lib.rt:342:13

@@ -1,6 +1,5 @@
 -- `registers::Count::add_at_once` adds the sum of both readings in their period.
 use mathlib.Core.Path.{refl}
-use borrow.Author.Rules.{rules}
 use Rattle.registers.proofs.Counting.{split_sum, neither_above}
 use Rattle.registers.proofs.Count.add_at_once.Goals as goal
 

@@ -1,5 +1,4 @@
 -- `registers::Count::add_one_by_one` adds one reading after the other, and asks the pair last.
-use borrow.Author.Rules.{rules}
 use native.Mathlib.Omega.{arith}
 use Rattle.registers.proofs.Counting.{room_after, pair_both}
 use Rattle.registers.proofs.Count.add_one_by_one.Goals as goal

@@ -1,5 +1,4 @@
 -- `registers::Count::add_pair` asks the sum of what stands in both places: within the limit, neither is lost.
-use borrow.Author.Rules.{rules}
 use Rattle.registers.proofs.Counting.{pair_known}
 use Rattle.registers.proofs.Count.add_pair.Goals as goal
 

@@ -1,6 +1,5 @@
 -- `registers::Count::add_same_entry` adds the sum off-peak or discount, where a critical day changes nothing, or as `add_at_once` does.
 use mathlib.Core.Path.{refl}
-use borrow.Author.Rules.{rules}
 use native.Mathlib.Omega.{arith}
 use Rattle.hours.proofs.Laws.{period_stays}
 use Rattle.registers.proofs.Counting.{neither_above}

@@ -1,10 +1,7 @@
 -- `session::Session::feed` takes line after line: `Going` has the steps.
-use Prim.Native.Nat.{◌-◌}
 use native.Mathlib.Omega.{arith}
-use borrow.Author.Rules.{rules}
-use lib.ListN.{length}
 use Rattle.session.specs.Sessions.{lent, so_far_of}
-use Rattle.session.proofs.Going.{Going, none_fed, going_start, going_more, going_none, going_all, more_taken, same_long, room_yes, room_none}
+use Rattle.session.proofs.Going.{none_fed, going_start, going_more, going_none, going_all, more_taken, same_long, room_yes, room_none}
 use mathlib.Core.Path.{ap}
 use mathlib.Core.Bool.{not}
 use Rattle.session.proofs.Session.feed.Goals as goal

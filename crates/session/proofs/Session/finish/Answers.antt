@@ -1,7 +1,6 @@
 -- `session::Session::finish` reads the bytes that are held, if there are any, and writes what the end prints: `Ending` has both cases.
 use mathlib.Core.Path.{refl}
 use native.Mathlib.Omega.{arith}
-use borrow.Author.Rules.{rules}
 use Rattle.progress.specs.Progressing.{state_of}
 use Rattle.lines.proofs.Buffers.{readings_same}
 use Rattle.session.specs.Sessions.{lent}

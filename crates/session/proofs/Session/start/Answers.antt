@@ -1,5 +1,4 @@
 -- `session::Session::start` holds no byte, whatever the buffers hold.
-use borrow.Author.Rules.{rules}
 use Rattle.session.proofs.Session.start.Goals as goal
 
 pub returns : goal.returns
