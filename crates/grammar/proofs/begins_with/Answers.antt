@@ -17,8 +17,7 @@ pub bounds-text-place : goal.bounds-text-place
 bounds-text-place c = omega arith
 
 pub returns-then-line-place : goal.returns-then-line-place
-returns-then-line-place c = let lp = c in
-    sym (lp.loop-place.invariant.2 ∙ begins_not lp.loop-place.place _ _ (omega arith) (omega arith) c.if-line-place.true)
+returns-then-line-place c = sym (c.loop-place.invariant.2 ∙ begins_not c.loop-place.place _ _ (omega arith) (omega arith) c.if-line-place.true)
 
 pub overflow_add-place : goal.overflow_add-place
 overflow_add-place c = omega arith
@@ -27,8 +26,7 @@ pub loop-place-smaller : goal.loop-place-smaller
 loop-place-smaller c = omega arith
 
 pub loop-place-preserved : goal.loop-place-preserved
-loop-place-preserved c = let lp = c in
-    (omega arith, omega arith, lp.loop-place.invariant.2 ∙ begins_next lp.loop-place.place _ _ (omega arith) (omega arith) c.if-line-place.false)
+loop-place-preserved c = (omega arith, omega arith, c.loop-place.invariant.2 ∙ begins_next c.loop-place.place _ _ (omega arith) (omega arith) c.if-line-place.false)
 
 pub returns : goal.returns
 returns c = sym (c.loop-place.invariant.2 ∙ begins_end c.loop-place.place _ _ (omega arith))

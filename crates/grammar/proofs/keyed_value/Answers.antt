@@ -12,10 +12,8 @@ slice_bounds-value_in-start c = begins_long _ _ (sym c.begins_with.ensures ∙ c
 
 pub returns-then-begins_with : goal.returns-then-begins_with
 returns-then-begins_with c = let begins = sym c.begins_with.ensures ∙ c.if-begins_with.true in
-    let start = c in
-    rw (keyed_yes _ (value_in start.args.kind) _ begins) c.value_in.ensures
+    rw (keyed_yes _ (value_in c.args.kind) _ begins) c.value_in.ensures
 
 pub returns : goal.returns
 returns c = let differs = sym c.begins_with.ensures ∙ c.if-begins_with.false in
-    let start = c in
-    rw (keyed_no _ (value_in start.args.kind) _ differs)
+    rw (keyed_no _ (value_in c.args.kind) _ differs)

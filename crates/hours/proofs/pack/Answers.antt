@@ -47,16 +47,14 @@ pub loop-place-smaller : goal.loop-place-smaller
 loop-place-smaller c = omega arith
 
 pub loop-place-preserved : goal.loop-place-preserved
-loop-place-preserved c = let lp = c in
-    let more : lp.loop-place.place + 1 ≡ suc lp.loop-place.place = omega arith in (
-      omega arith,
-      simp length-set lp.loop-place.invariant.1,
-      rw (words_more _ 0 lp.loop-place.place, zero-add, more, take-suc-set lp.loop-place.words lp.loop-place.place _ (omega arith), lp.loop-place.invariant.2, c.word_from.ensures),
-    )
+loop-place-preserved c = let more : c.loop-place.place + 1 ≡ suc c.loop-place.place = omega arith in (
+  omega arith,
+  simp length-set c.loop-place.invariant.1,
+  rw (words_more _ 0 c.loop-place.place, zero-add, more, take-suc-set c.loop-place.words c.loop-place.place _ (omega arith), c.loop-place.invariant.2, c.word_from.ensures),
+)
 
 pub returns : goal.returns
 unfolding words_or_none packed
-returns c = let lp = c in
-    let end : lp.loop-place.place ≡ 12 = omega arith in
-    rw (sym lp.schedule_refused.ensures ∙ lp.if-schedule_refused.false)
-    (sym (take_all 12 lp.loop-place.words (omega arith)) ∙ rw end at lp.loop-place.invariant.2)
+returns c = let end : c.loop-place.place ≡ 12 = omega arith in
+    rw (sym c.schedule_refused.ensures ∙ c.if-schedule_refused.false)
+    (sym (take_all 12 c.loop-place.words (omega arith)) ∙ rw end at c.loop-place.invariant.2)

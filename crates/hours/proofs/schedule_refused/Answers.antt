@@ -19,17 +19,13 @@ bounds-schedule-place c = omega arith
 
 pub returns-then-entry-lt-ON_PEAK : goal.returns-then-entry-lt-ON_PEAK
 unfolding schedule_refused
-returns-then-entry-lt-ON_PEAK c = let step = c in
-    let lp = step in
-    let long = lp.if-schedule-ne-SCHEDULE_LENGTH.false in
-    rw (eq-eqb _ _ long, ← lp.loop-place.invariant.1, bad_entry lp.args.schedule.now lp.loop-place.place (omega arith) (rw (lt-leb _ _ c.if-entry-lt-ON_PEAK.true)))
+returns-then-entry-lt-ON_PEAK c = let long = c.if-schedule-ne-SCHEDULE_LENGTH.false in
+    rw (eq-eqb _ _ long, ← c.loop-place.invariant.1, bad_entry c.args.schedule.now c.loop-place.place (omega arith) (rw (lt-leb _ _ c.if-entry-lt-ON_PEAK.true)))
 
 pub returns-then-entry-gt-DISCOUNT : goal.returns-then-entry-gt-DISCOUNT
 unfolding schedule_refused
-returns-then-entry-gt-DISCOUNT c = let step = c in
-    let lp = step in
-    let long = lp.if-schedule-ne-SCHEDULE_LENGTH.false in
-    rw (eq-eqb _ _ long, ← lp.loop-place.invariant.1, bad_entry lp.args.schedule.now lp.loop-place.place (omega arith) (rw (le-leb _ _ c.if-entry-lt-ON_PEAK.false, lt-leb _ _ c.if-entry-gt-DISCOUNT.true)))
+returns-then-entry-gt-DISCOUNT c = let long = c.if-schedule-ne-SCHEDULE_LENGTH.false in
+    rw (eq-eqb _ _ long, ← c.loop-place.invariant.1, bad_entry c.args.schedule.now c.loop-place.place (omega arith) (rw (le-leb _ _ c.if-entry-lt-ON_PEAK.false, lt-leb _ _ c.if-entry-gt-DISCOUNT.true)))
 
 pub overflow_add-place : goal.overflow_add-place
 overflow_add-place c = omega arith
@@ -38,11 +34,10 @@ pub loop-place-smaller : goal.loop-place-smaller
 loop-place-smaller c = omega arith
 
 pub loop-place-preserved : goal.loop-place-preserved
-loop-place-preserved c = let lp = c in
-    let long = lp.if-schedule-ne-SCHEDULE_LENGTH.false in (
-      omega arith,
-      sym (good_entry _ lp.loop-place.place (omega arith) (rw (le-leb _ _ c.if-entry-lt-ON_PEAK.false, le-leb _ _ c.if-entry-gt-DISCOUNT.false))) ∙ lp.loop-place.invariant.1,
-    )
+loop-place-preserved c = let long = c.if-schedule-ne-SCHEDULE_LENGTH.false in (
+  omega arith,
+  sym (good_entry _ c.loop-place.place (omega arith) (rw (le-leb _ _ c.if-entry-lt-ON_PEAK.false, le-leb _ _ c.if-entry-gt-DISCOUNT.false))) ∙ c.loop-place.invariant.1,
+)
 
 pub returns : goal.returns
 unfolding schedule_refused all_entries

@@ -53,6 +53,5 @@ pub loop-left-preserved : goal.loop-left-preserved
 loop-left-preserved c = (omega arith, more (goal.at.loop-left-preserved c).After-shared_slice_known-1)
 
 pub returns : goal.returns
-returns c = let lp = c in
-    let none : lp.loop-left.left ≡ 0 = omega arith in
-    rw (none, add-zero) at lp.loop-left.invariant.1
+returns c = let none : c.loop-left.left ≡ 0 = omega arith in
+    rw (none, add-zero) at c.loop-left.invariant.1

@@ -11,17 +11,10 @@ pub returns-then-words-gt2 : goal.returns-then-words-gt2
 unfolding is_account
 returns-then-words-gt2 c = simp (eq-eqb _ _ c.if-words-ne-ACCOUNT.false, lt-leb _ _ c.if-words-gt2.true)
 
-pub known_terms-requires : goal.known_terms-requires
-known_terms-requires c = tt
-
 pub returns-then-known_terms : goal.returns-then-known_terms
 unfolding is_account
-returns-then-known_terms c = let known = c in
-    let two = known in
-    simp (eq-eqb _ _ two.if-words-ne-ACCOUNT.false, le-leb _ _ two.if-words-gt2.false, ← known.known_terms.ensures, c.if-known_terms.true)
+returns-then-known_terms c = simp (eq-eqb _ _ c.if-words-ne-ACCOUNT.false, le-leb _ _ c.if-words-gt2.false, ← c.known_terms.ensures, c.if-known_terms.true)
 
 pub returns : goal.returns
 unfolding is_account
-returns c = let known = c in
-    let two = known in
-    simp (eq-eqb _ _ two.if-words-ne-ACCOUNT.false, le-leb _ _ two.if-words-gt2.false, ← known.known_terms.ensures, c.if-known_terms.false)
+returns c = simp (eq-eqb _ _ c.if-words-ne-ACCOUNT.false, le-leb _ _ c.if-words-gt2.false, ← c.known_terms.ensures, c.if-known_terms.false)

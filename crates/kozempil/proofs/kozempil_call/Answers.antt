@@ -5,28 +5,13 @@ use Rattle.records.specs.Rows.{row_of}
 use Rattle.kozempil.proofs.Calls.{account_numbers, answered, not-answered, answer_is, account_is, no_account}
 use Rattle.kozempil.proofs.kozempil_call.Goals as goal
 
-pub is_account-requires : goal.is_account-requires
-is_account-requires c = tt
-
 pub account_at-before-requires : goal.account_at-before-requires
 account_at-before-requires c =
     let (long, fits) = account_numbers _ (sym c.is_account.ensures ∙ c.if-is_account.true) in
     record { words_len = long; next_place_bound = fits }
 
-pub answer_record-answered-requires : goal.answer_record-answered-requires
-answer_record-answered-requires c = tt
-
-pub row_of-row-requires : goal.row_of-row-requires
-row_of-row-requires c = tt
-
 pub slice_bounds-write_numbers-end : goal.slice_bounds-write_numbers-end
 slice_bounds-write_numbers-end c = rw c.row_of-row.ensures
-
-pub write_numbers-requires : goal.write_numbers-requires
-write_numbers-requires c = tt
-
-pub write_account-requires : goal.write_account-requires
-write_account-requires c = tt
 
 pub shape_of-answer-then-answered : goal.shape_of-answer-then-answered
 shape_of-answer-then-answered c = c.write_numbers.auto.buffer
@@ -35,16 +20,13 @@ pub shape_of-after-then-answered : goal.shape_of-after-then-answered
 shape_of-after-then-answered c = c.write_account.auto.buffer
 
 pub returns-then-answered : goal.returns-then-answered
-returns-then-answered c = let written = c in
-    let known = written in
-    let asked = known in
-    let from = known.account_at-before.ensures in
-    let by = known.answer_record-answered.ensures in
-    let yes = answered _ _ _ _ _ _ from by (sym asked.is_account.ensures ∙ known.if-is_account.true) known.if-answered.true in
-    let answer = asked.args.answer.now in record {
+returns-then-answered c = let from = c.account_at-before.ensures in
+    let by = c.answer_record-answered.ensures in
+    let yes = answered _ _ _ _ _ _ from by (sym c.is_account.ensures ∙ c.if-is_account.true) c.if-answered.true in
+    let answer = c.args.answer.now in record {
       value = rw yes;
-      answer_after = rw yes (written.write_numbers.ensures ∙ ap (λ row. sets answer 0 row) (written.row_of-row.ensures ∙ ap row_of (answer_is _ _ _ _ _ _ from by known.if-answered.true)));
-      after_after = rw (yes, ← (account_is _ _ _ _ _ _ from by known.if-answered.true)) c.write_account.ensures;
+      answer_after = rw yes (c.write_numbers.ensures ∙ ap (λ row. sets answer 0 row) (c.row_of-row.ensures ∙ ap row_of (answer_is _ _ _ _ _ _ from by c.if-answered.true)));
+      after_after = rw (yes, ← (account_is _ _ _ _ _ _ from by c.if-answered.true)) c.write_account.ensures;
       account_value = (refl, refl, refl, refl);
     }
 

@@ -4,22 +4,15 @@ use Rattle.registers.proofs.View.{viewed}
 use Rattle.kozempil.proofs.Parts.{empty_numbers, day_numbers}
 use Rattle.kozempil.proofs.kozempil_day_view.Goals as goal
 
-pub empty_view-requires : goal.empty_view-requires
-empty_view-requires c = tt
-
 pub slice_bounds-write_numbers-end : goal.slice_bounds-write_numbers-end
 slice_bounds-write_numbers-end c = refl
-
-pub write_numbers-requires : goal.write_numbers-requires
-write_numbers-requires c = tt
 
 pub shape_of-part-then-empty_view : goal.shape_of-part-then-empty_view
 shape_of-part-then-empty_view c = c.write_numbers.auto.buffer
 
 pub returns-then-empty_view : goal.returns-then-empty_view
-returns-then-empty_view c = let asked = c in
-    let at = asked.args in
-    let same = sym asked.empty_view.ensures ∙ asked.if-empty_view.true in record {
+returns-then-empty_view c = let at = c.args in
+    let same = sym c.empty_view.ensures ∙ c.if-empty_view.true in record {
       part_after = rw (empty_numbers at.delivered at.received at.month at.day at.number same) c.write_numbers.ensures;
       delivered_value = (refl, refl);
     }
@@ -27,27 +20,16 @@ returns-then-empty_view c = let asked = c in
 pub overflow_sub-day : goal.overflow_sub-day
 overflow_sub-day c = (viewed _ _ _ _ _ (sym c.empty_view.ensures ∙ c.if-empty_view.false)).first
 
-pub readings_through-start-requires : goal.readings_through-start-requires
-readings_through-start-requires c = tt
-
-pub day_length-count-requires : goal.day_length-count-requires
-day_length-count-requires c = tt
-
 pub slice_bounds-write_numbers-end-2 : goal.slice_bounds-write_numbers-end-2
 slice_bounds-write_numbers-end-2 c = refl
-
-pub write_numbers-requires-2 : goal.write_numbers-requires-2
-write_numbers-requires-2 c = tt
 
 pub shape_of-part : goal.shape_of-part
 shape_of-part c = c.write_numbers-2.auto.buffer
 
 pub returns : goal.returns
-returns c = let day = c in
-    let asked = day in
-    let at = asked.args in
-    let some = sym asked.empty_view.ensures ∙ asked.if-empty_view.false in
-    let numbers = day_numbers at.delivered at.received at.month at.day at.number some _ _ day.readings_through-start.ensures day.day_length-count.ensures in record {
+returns c = let at = c.args in
+    let some = sym c.empty_view.ensures ∙ c.if-empty_view.false in
+    let numbers = day_numbers at.delivered at.received at.month at.day at.number some _ _ c.readings_through-start.ensures c.day_length-count.ensures in record {
       part_after = rw numbers c.write_numbers-2.ensures;
       delivered_value = (refl, refl);
     }

@@ -3,15 +3,6 @@ use mathlib.Core.Path.{refl}
 use Rattle.balances.proofs.Balances.{starts_fresh}
 use Rattle.kozempil.proofs.kozempil_run.Goals as goal
 
-pub fresh-requires : goal.fresh-requires
-fresh-requires c = tt
-
-pub run-ran-requires : goal.run-ran-requires
-run-ran-requires c = tt
-
-pub write_account-requires : goal.write_account-requires
-write_account-requires c = tt
-
 pub shape_of-answers : goal.shape_of-answers
 shape_of-answers c = c.run-ran.auto.answers
 
@@ -19,9 +10,8 @@ pub shape_of-account : goal.shape_of-account
 shape_of-account c = c.write_account.auto.buffer
 
 pub returns : goal.returns
-returns c = let ran = c in
-    let fresh = ran.fresh.ensures in
-    let held = ran.run-ran.ensures.demand_three.lent in record {
+returns c = let fresh = c.fresh.ensures in
+    let held = c.run-ran.ensures.demand_three.lent in record {
       list_answered = record {
         answered = held.answered;
         written = held.written;

@@ -3,28 +3,13 @@ use Rattle.records.proofs.Laws.{month_fits, billing_fits}
 use Rattle.ledger.proofs.Records.{opening_record, repricing_record, billing_record, closing_record}
 use Rattle.ledger.proofs.answer_call.Goals as goal
 
-pub terms_at-terms-requires : goal.terms_at-terms-requires
-terms_at-terms-requires c = tt
-
-pub prices_at-prices-requires : goal.prices_at-prices-requires
-prices_at-prices-requires c = tt
-
 pub overflow_cast-month : goal.overflow_cast-month
 overflow_cast-month c = record { fits = month_fits _ c.requires.call_value c.if-kind-eq-OPENING.true }
-
-pub answer_opening-requires : goal.answer_opening-requires
-answer_opening-requires c = tt
 
 pub returns-then-kind-eq-OPENING : goal.returns-then-kind-eq-OPENING
 returns-then-kind-eq-OPENING c =
     rw (opening_record _ _ _ c.if-kind-eq-OPENING.true, ← c.terms_at-terms.ensures, ← c.prices_at-prices.ensures)
     c.answer_opening.ensures
-
-pub prices_at-prices-requires-then-kind-eq-REPRICING : goal.prices_at-prices-requires-then-kind-eq-REPRICING
-prices_at-prices-requires-then-kind-eq-REPRICING c = tt
-
-pub answer_repricing-requires : goal.answer_repricing-requires
-answer_repricing-requires c = tt
 
 pub returns-then-kind-eq-REPRICING : goal.returns-then-kind-eq-REPRICING
 returns-then-kind-eq-REPRICING c = rw (repricing_record _ _ _ c.if-kind-eq-REPRICING.true, ← c.prices_at-prices-then-kind-eq-REPRICING.ensures) c.answer_repricing.ensures
@@ -35,14 +20,8 @@ overflow_cast-month-then-kind-eq-BILLING c = record { fits = (billing_fits _ c.r
 pub overflow_cast-critical_days : goal.overflow_cast-critical_days
 overflow_cast-critical_days c = record { fits = (billing_fits _ c.requires.call_value c.if-kind-eq-BILLING.true).1 }
 
-pub answer_billing-requires : goal.answer_billing-requires
-answer_billing-requires c = tt
-
 pub returns-then-kind-eq-BILLING : goal.returns-then-kind-eq-BILLING
 returns-then-kind-eq-BILLING c = rw (billing_record _ _ _ c.if-kind-eq-BILLING.true) c.answer_billing.ensures
-
-pub answer_closing-requires : goal.answer_closing-requires
-answer_closing-requires c = tt
 
 pub returns : goal.returns
 returns c = rw (closing_record _ _ _ c.if-kind-eq-OPENING.false c.if-kind-eq-REPRICING.false c.if-kind-eq-BILLING.false) c.answer_closing.ensures

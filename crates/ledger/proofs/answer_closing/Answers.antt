@@ -3,12 +3,6 @@ use Rattle.balances.specs.Calls.{answer_of, account_after}
 use Rattle.ledger.specs.Running.{step_of}
 use Rattle.ledger.proofs.answer_closing.Goals as goal
 
-pub closing-reply-requires : goal.closing-reply-requires
-closing-reply-requires c = tt
-
-pub no_bill-requires : goal.no_bill-requires
-no_bill-requires c = tt
-
 pub returns : goal.returns
 unfolding step_of answer_of account_after
 returns c = rw (c.no_bill.ensures, c.closing-reply.ensures)

@@ -5,15 +5,9 @@ use Rattle.ledger.specs.Encoding.{answered_of}
 use Rattle.ledger.specs.Running.{step_of}
 use Rattle.ledger.proofs.answer_record.Goals as goal
 
-pub plain_answer-answer-requires : goal.plain_answer-answer-requires
-plain_answer-answer-requires c = tt
-
 pub returns-then-call-ne-RECORD : goal.returns-then-call-ne-RECORD
 unfolding answered_of
 returns-then-call-ne-RECORD c = simp (ne_eqb _ _ c.if-call-ne-RECORD.true, c.plain_answer-answer.ensures)
-
-pub is_call-requires : goal.is_call-requires
-is_call-requires c = tt
 
 pub answer_call-step-requires : goal.answer_call-step-requires
 answer_call-step-requires c = record {
@@ -24,9 +18,6 @@ answer_call-step-requires c = record {
 pub returns-then-is_call : goal.returns-then-is_call
 unfolding answered_of step_of
 returns-then-is_call c = rw (eq-eqb _ _ c.if-call-ne-RECORD.false, ← c.is_call.ensures, c.if-is_call.true, c.answer_call-step.ensures)
-
-pub plain_answer-answer-requires-2 : goal.plain_answer-answer-requires-2
-plain_answer-answer-requires-2 c = tt
 
 pub returns : goal.returns
 unfolding answered_of

@@ -3,12 +3,6 @@ use Rattle.balances.specs.Calls.{answer_of, account_after}
 use Rattle.ledger.specs.Running.{step_of}
 use Rattle.ledger.proofs.answer_repricing.Goals as goal
 
-pub repricing-reply-requires : goal.repricing-reply-requires
-repricing-reply-requires c = tt
-
-pub plain_answer-requires : goal.plain_answer-requires
-plain_answer-requires c = tt
-
 pub returns : goal.returns
 unfolding step_of answer_of account_after
 returns c = rw (c.plain_answer.ensures, c.repricing-reply.ensures)

@@ -26,58 +26,41 @@ slice_bounds-record-start c = le-add_right _ _
 pub slice_bounds-record-end : goal.slice_bounds-record-end
 slice_bounds-record-end c = record_in c.loop-left.invariant c.loop-left-test.true
 
-pub is_call-requires : goal.is_call-requires
-is_call-requires c = tt
-
 pub overflow_sub-total : goal.overflow_sub-total
 overflow_sub-total c = left_in c.loop-left.invariant
-
-pub ran_to-requires : goal.ran_to-requires
-ran_to-requires c = tt
 
 pub shape_of-answers-then-not-is_call : goal.shape_of-answers-then-not-is_call
 shape_of-answers-then-not-is_call c = c.loop-left.invariant.same
 
 pub returns-then-not-is_call : goal.returns-then-not-is_call
-returns-then-not-is_call c = let asked = c in
-    let step = asked in
-    let lp = step in record {
-      demand_three = stopped
-          _ _ _ _ _ _ _ _ _ _ _ _ _ _
-          lp.loop-left.invariant
-          step.loop-left-test.true
-          (record_is lp.args.calls.now lp.loop-left.call)
-          (sym asked.is_call.ensures ∙ c.if-not-is_call.true)
-          c.ran_to.ensures;
-      calls_value = (refl, refl, refl);
-    }
+returns-then-not-is_call c = record {
+  demand_three = stopped
+      _ _ _ _ _ _ _ _ _ _ _ _ _ _
+      c.loop-left.invariant
+      c.loop-left-test.true
+      (record_is c.args.calls.now c.loop-left.call)
+      (sym c.is_call.ensures ∙ c.if-not-is_call.true)
+      c.ran_to.ensures;
+  calls_value = (refl, refl, refl);
+}
 
 pub overflow_sub-delivered : goal.overflow_sub-delivered
 overflow_sub-delivered c = c.loop-left.invariant.taken_in
 
-pub readings_taken-requires : goal.readings_taken-requires
-readings_taken-requires c = tt
-
 pub overflow_add-taken_end : goal.overflow_add-taken_end
-overflow_add-taken_end c = let step = c in
-    let good = step.well_formed in
-    readings_fit step.loop-left.invariant.taken_in good.1.1.0.1 _ c.readings_taken.ensures
+overflow_add-taken_end c = let good = c.well_formed in
+    readings_fit c.loop-left.invariant.taken_in good.1.1.0.1 _ c.readings_taken.ensures
 
 pub overflow_sub-received : goal.overflow_sub-received
 overflow_sub-received c = c.loop-left.invariant.given_in
 
-pub readings_taken-requires-in-loop-left : goal.readings_taken-requires-in-loop-left
-readings_taken-requires-in-loop-left c = tt
-
 pub overflow_add-given_end : goal.overflow_add-given_end
-overflow_add-given_end c = let step = c in
-    let good = step.well_formed in
-    readings_fit step.loop-left.invariant.given_in good.1.1.1.0.1 _ c.readings_taken-in-loop-left.ensures
+overflow_add-given_end c = let good = c.well_formed in
+    readings_fit c.loop-left.invariant.given_in good.1.1.1.0.1 _ c.readings_taken-in-loop-left.ensures
 
 pub offset_bounds-delivered-taken : goal.offset_bounds-delivered-taken
-offset_bounds-delivered-taken c = let step = c in
-    let good = step.well_formed in
-    place_fits step.loop-left.invariant.taken_in good.1.1.0.1
+offset_bounds-delivered-taken c = let good = c.well_formed in
+    place_fits c.loop-left.invariant.taken_in good.1.1.0.1
 
 pub slice_bounds-answer_call-count : goal.slice_bounds-answer_call-count
 slice_bounds-answer_call-count c = le-add_right _ _
@@ -86,14 +69,12 @@ pub slice_bounds-answer_call-start : goal.slice_bounds-answer_call-start
 slice_bounds-answer_call-start c = le-add_right _ _
 
 pub slice_bounds-answer_call-end : goal.slice_bounds-answer_call-end
-slice_bounds-answer_call-end c = let step = c in
-    let good = step.well_formed in
-    readings_in step.loop-left.invariant.taken_in good.1.1.0.1 _ c.readings_taken.ensures
+slice_bounds-answer_call-end c = let good = c.well_formed in
+    readings_in c.loop-left.invariant.taken_in good.1.1.0.1 _ c.readings_taken.ensures
 
 pub offset_bounds-received-given : goal.offset_bounds-received-given
-offset_bounds-received-given c = let step = c in
-    let good = step.well_formed in
-    place_fits step.loop-left.invariant.given_in good.1.1.1.0.1
+offset_bounds-received-given c = let good = c.well_formed in
+    place_fits c.loop-left.invariant.given_in good.1.1.1.0.1
 
 pub slice_bounds-answer_call-count-in-loop-left : goal.slice_bounds-answer_call-count-in-loop-left
 slice_bounds-answer_call-count-in-loop-left c = le-add_right _ _
@@ -102,59 +83,41 @@ pub slice_bounds-answer_call-start-in-loop-left : goal.slice_bounds-answer_call-
 slice_bounds-answer_call-start-in-loop-left c = le-add_right _ _
 
 pub slice_bounds-answer_call-end-in-loop-left : goal.slice_bounds-answer_call-end-in-loop-left
-slice_bounds-answer_call-end-in-loop-left c = let step = c in
-    let good = step.well_formed in
-    readings_in step.loop-left.invariant.given_in good.1.1.1.0.1 _ c.readings_taken-in-loop-left.ensures
+slice_bounds-answer_call-end-in-loop-left c = let good = c.well_formed in
+    readings_in c.loop-left.invariant.given_in good.1.1.1.0.1 _ c.readings_taken-in-loop-left.ensures
 
 pub answer_call-step-requires : goal.answer_call-step-requires
-answer_call-step-requires c = let read = c in
-    let step = read in record {
-      call_len = record_long step.loop-left.invariant step.loop-left-test.true;
-      call_value = sym read.is_call.ensures ∙ read.if-not-is_call.false;
-    }
-
-pub row_of-words-requires : goal.row_of-words-requires
-row_of-words-requires c = tt
+answer_call-step-requires c = record {
+  call_len = record_long c.loop-left.invariant c.loop-left-test.true;
+  call_value = sym c.is_call.ensures ∙ c.if-not-is_call.false;
+}
 
 pub slice_bounds-write_numbers-end : goal.slice_bounds-write_numbers-end
 slice_bounds-write_numbers-end c = rw c.row_of-words.ensures
 
-pub write_numbers-requires : goal.write_numbers-requires
-write_numbers-requires c = tt
-
 pub overflow_sub-left : goal.overflow_sub-left
-overflow_sub-left c = let read = c in
-    read.loop-left-test.true
+overflow_sub-left c = c.loop-left-test.true
 
 pub overflow_add-row : goal.overflow_add-row
-overflow_add-row c = let step = c in
-    let good = step.well_formed in
-    row_fits step.loop-left.invariant step.loop-left-test.true good.1.0.1
+overflow_add-row c = let good = c.well_formed in
+    row_fits c.loop-left.invariant c.loop-left-test.true good.1.0.1
 
 pub loop-left-smaller : goal.loop-left-smaller
-loop-left-smaller c = let step = c in
-    less step.loop-left.invariant step.loop-left-test.true
+loop-left-smaller c = less c.loop-left.invariant c.loop-left-test.true
 
 pub loop-left-preserved : goal.loop-left-preserved
-loop-left-preserved c = let answered = c in
-    let read = answered in
-    let step = read in
-    let lp = step in
-    advance
+loop-left-preserved c = advance
     _ _ _ _ _ _ _ _ _ _ _ _ _ _ _ _ _ _
-    lp.loop-left.invariant
-    step.loop-left-test.true
-    (record_is lp.args.calls.now lp.loop-left.call)
-    (sym read.is_call.ensures ∙ read.if-not-is_call.false)
-    answered.readings_taken.ensures
-    answered.readings_taken-in-loop-left.ensures
-    answered.answer_call-step.ensures
+    c.loop-left.invariant
+    c.loop-left-test.true
+    (record_is c.args.calls.now c.loop-left.call)
+    (sym c.is_call.ensures ∙ c.if-not-is_call.false)
+    c.readings_taken.ensures
+    c.readings_taken-in-loop-left.ensures
+    c.answer_call-step.ensures
     c.row_of-words.ensures
     c.write_numbers.ensures
     c.write_numbers.auto.buffer
-
-pub ran_to-requires-2 : goal.ran_to-requires-2
-ran_to-requires-2 c = tt
 
 pub shape_of-answers : goal.shape_of-answers
 shape_of-answers c = c.loop-left.invariant.same

@@ -12,22 +12,16 @@ returns-then-table-ne-SCHEDULE_LENGTH c = let args = c.args in
     }
 
 pub returns-then-good : goal.returns-then-good
-returns-then-good c = let stored = c in
-    let read = stored in
-    let long = read in
-    let args = long.args in
-    let answer = load_good args.text.now args.table.now long.if-table-ne-SCHEDULE_LENGTH.false read.read_lines-good.ensures stored.store.ensures c.if-good.true in record {
+returns-then-good c = let args = c.args in
+    let answer = load_good args.text.now args.table.now c.if-table-ne-SCHEDULE_LENGTH.false c.read_lines-good.ensures c.store.ensures c.if-good.true in record {
       value = answer.0;
       table_after = answer.1;
       text_value = refl;
     }
 
 pub returns : goal.returns
-returns c = let stored = c in
-    let read = stored in
-    let long = read in
-    let args = long.args in
-    let answer = load_bad args.text.now args.table.now long.if-table-ne-SCHEDULE_LENGTH.false read.read_lines-good.ensures stored.store.ensures c.if-good.false in record {
+returns c = let args = c.args in
+    let answer = load_bad args.text.now args.table.now c.if-table-ne-SCHEDULE_LENGTH.false c.read_lines-good.ensures c.store.ensures c.if-good.false in record {
       value = answer.0;
       table_after = answer.1;
       text_value = refl;

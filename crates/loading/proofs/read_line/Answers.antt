@@ -7,14 +7,8 @@ pub returns-then-line : goal.returns-then-line
 returns-then-line c = line_long _ _ _ _ c.requires.row_bound c.if-line.true
 
 pub returns-then-not-begins_with : goal.returns-then-not-begins_with
-returns-then-not-begins_with c = let key = c in
-    let start = key in
-    line_other _ _ _ _ start.requires.row_bound (sym key.begins_with.ensures ∙ c.if-not-begins_with.true)
+returns-then-not-begins_with c = line_other _ _ _ _ c.requires.row_bound (sym c.begins_with.ensures ∙ c.if-not-begins_with.true)
 
 pub returns : goal.returns
-returns c = let read = c in
-    let tested = read in
-    let key = tested in
-    let long = key in
-    let begins = sym key.begins_with.ensures ∙ tested.if-not-begins_with.false in
-    line_digits _ _ _ _ long.requires.row_bound begins long.if-line.false read.read_periods.ensures
+returns c = let begins = sym c.begins_with.ensures ∙ c.if-not-begins_with.false in
+    line_digits _ _ _ _ c.requires.row_bound begins c.if-line.false c.read_periods.ensures

@@ -17,15 +17,13 @@ pub shape_of-entries-then-digit-lt-FIRST_DIGIT : goal.shape_of-entries-then-digi
 shape_of-entries-then-digit-lt-FIRST_DIGIT c = c.loop-place.invariant.1
 
 pub returns-then-digit-lt-FIRST_DIGIT : goal.returns-then-digit-lt-FIRST_DIGIT
-returns-then-digit-lt-FIRST_DIGIT c = let lp = c in
-    periods_bad _ _ _ (lp.loop-place.invariant.2 ∙ digits_low lp.loop-place.place _ (omega arith) c.if-digit-lt-FIRST_DIGIT.true)
+returns-then-digit-lt-FIRST_DIGIT c = periods_bad _ _ _ (c.loop-place.invariant.2 ∙ digits_low c.loop-place.place _ (omega arith) c.if-digit-lt-FIRST_DIGIT.true)
 
 pub shape_of-entries-then-digit-gt-LAST_DIGIT : goal.shape_of-entries-then-digit-gt-LAST_DIGIT
 shape_of-entries-then-digit-gt-LAST_DIGIT c = c.loop-place.invariant.1
 
 pub returns-then-digit-gt-LAST_DIGIT : goal.returns-then-digit-gt-LAST_DIGIT
-returns-then-digit-gt-LAST_DIGIT c = let lp = c in
-    periods_bad _ _ _ (lp.loop-place.invariant.2 ∙ digits_high lp.loop-place.place _ (omega arith) c.if-digit-gt-LAST_DIGIT.true)
+returns-then-digit-gt-LAST_DIGIT c = periods_bad _ _ _ (c.loop-place.invariant.2 ∙ digits_high c.loop-place.place _ (omega arith) c.if-digit-gt-LAST_DIGIT.true)
 
 pub overflow_sub-entries : goal.overflow_sub-entries
 overflow_sub-entries c = omega arith
@@ -43,16 +41,15 @@ pub loop-place-smaller : goal.loop-place-smaller
 loop-place-smaller c = omega arith
 
 pub loop-place-preserved : goal.loop-place-preserved
-loop-place-preserved c = let lp = c in
-    let inv = lp.loop-place.invariant in (
-      omega arith,
-      simp length-set inv.1,
-      inv.2 ∙ digits_next lp.loop-place.place _ (omega arith) (omega arith) (omega arith),
-      store_next _ _ lp.loop-place.place _ (omega arith) inv.3,
-    )
+loop-place-preserved c = let inv = c.loop-place.invariant in (
+  omega arith,
+  simp length-set inv.1,
+  inv.2 ∙ digits_next c.loop-place.place _ (omega arith) (omega arith) (omega arith),
+  store_next _ _ c.loop-place.place _ (omega arith) inv.3,
+)
 
 pub shape_of-entries : goal.shape_of-entries
 shape_of-entries c = c.loop-place.invariant.1
 
 pub returns : goal.returns
-returns c = let lp = c in periods_all _ lp.loop-place.place (omega arith) lp.loop-place.invariant.2 lp.loop-place.invariant.3
+returns c = periods_all _ c.loop-place.place (omega arith) c.loop-place.invariant.2 c.loop-place.invariant.3

@@ -33,5 +33,4 @@ shape_of-table c = omega arith
 
 pub returns : goal.returns
 returns c = let lp = c.loop-place in
-    let tested = c in
-    copy_all tested.args.table.now _ _ lp.place (tested.if-not-good.false) (omega arith) lp.invariant.1 lp.invariant.2
+    copy_all c.args.table.now _ _ lp.place (c.if-not-good.false) (omega arith) lp.invariant.1 lp.invariant.2

@@ -9,34 +9,26 @@ pub returns-then-text-ne-MONTH_LENGTH : goal.returns-then-text-ne-MONTH_LENGTH
 returns-then-text-ne-MONTH_LENGTH c = rw (month_length_lem c.args.text.now c.if-text-ne-MONTH_LENGTH.true)
 
 pub returns-then-text-ne45 : goal.returns-then-text-ne45
-returns-then-text-ne45 c = let start = c in
-    rw (month_dash start.args.text.now c.if-text-ne-MONTH_LENGTH.false c.if-text-ne45.true)
+returns-then-text-ne45 c = rw (month_dash c.args.text.now c.if-text-ne-MONTH_LENGTH.false c.if-text-ne45.true)
 
 pub slice_bounds-number_in-end : goal.slice_bounds-number_in-end
 slice_bounds-number_in-end c = simp length-take (omega arith)
 
 pub returns-then-year-eq0 : goal.returns-then-year-eq0
-returns-then-year-eq0 c = let not-year = read_none _ _ c.number_in-year.ensures c.if-year-eq0.true in
-    let dash = c in
-    let start = dash in
-    rw (month_year start.args.text.now dash.if-text-ne-MONTH_LENGTH.false dash.if-text-ne45.false not-year)
+returns-then-year-eq0 c = let not_year = read_none _ _ c.number_in-year.ensures c.if-year-eq0.true in
+    rw (month_year c.args.text.now c.if-text-ne-MONTH_LENGTH.false c.if-text-ne45.false not_year)
 
 pub returns-then-of_year-eq0 : goal.returns-then-of_year-eq0
-returns-then-of_year-eq0 c = let some = c in
-    let dash = some in
-    let start = dash in
-    let year = read_some _ _ some.number_in-year.ensures some.if-year-eq0.false in
-    let not-month = read_none _ _ c.number_in-of_year.ensures c.if-of_year-eq0.true in
-    rw (month_of_year_lem start.args.text.now dash.if-text-ne-MONTH_LENGTH.false dash.if-text-ne45.false year not-month)
+returns-then-of_year-eq0 c = let year = read_some _ _ c.number_in-year.ensures c.if-year-eq0.false in
+    let not_month = read_none _ _ c.number_in-of_year.ensures c.if-of_year-eq0.true in
+    rw (month_of_year_lem c.args.text.now c.if-text-ne-MONTH_LENGTH.false c.if-text-ne45.false year not_month)
 
 pub returns : goal.returns
-returns c = let some = c in
-    let dash = some in
-    let text = dash.args.text.now in
-    let y = some.number_in-year.ensures in
+returns c = let text = c.args.text.now in
+    let y = c.number_in-year.ensures in
     let m = c.number_in-of_year.ensures in
-    let year = read_some _ _ y some.if-year-eq0.false in
+    let year = read_some _ _ y c.if-year-eq0.false in
     let month = read_some _ _ m c.if-of_year-eq0.false in
-    let value = read_value _ _ y some.if-year-eq0.false in
+    let value = read_value _ _ y c.if-year-eq0.false in
     let number = read_value _ _ m c.if-of_year-eq0.false in
-    rw (← (month_is text _ _ dash.if-text-ne-MONTH_LENGTH.false dash.if-text-ne45.false year month value number)) c.month_of.ensures
+    rw (← (month_is text _ _ c.if-text-ne-MONTH_LENGTH.false c.if-text-ne45.false year month value number)) c.month_of.ensures

@@ -13,17 +13,13 @@ returns-then-year-gt9999 c = simp (le-leb _ _ c.if-year-lt2000.false, lt-leb _ _
 
 pub returns-then-of_year-lt1 : goal.returns-then-of_year-lt1
 unfolding month_from
-returns-then-of_year-lt1 c = let b = c in
-    simp (le-leb _ _ b.if-year-lt2000.false, le-leb _ _ b.if-year-gt9999.false, lt-leb _ _ c.if-of_year-lt1.true)
+returns-then-of_year-lt1 c = simp (le-leb _ _ c.if-year-lt2000.false, le-leb _ _ c.if-year-gt9999.false, lt-leb _ _ c.if-of_year-lt1.true)
 
 pub returns-then-of_year-gt12 : goal.returns-then-of_year-gt12
 unfolding month_from
-returns-then-of_year-gt12 c = let a = c in
-    simp (le-leb _ _ a.if-year-lt2000.false, le-leb _ _ a.if-year-gt9999.false, le-leb _ _ c.if-of_year-lt1.false, lt-leb _ _ c.if-of_year-gt12.true)
+returns-then-of_year-gt12 c = simp (le-leb _ _ c.if-year-lt2000.false, le-leb _ _ c.if-year-gt9999.false, le-leb _ _ c.if-of_year-lt1.false, lt-leb _ _ c.if-of_year-gt12.true)
 
 pub returns : goal.returns
 unfolding month_from
-returns c = let b = c in
-    let a = b in
-    simp (le-leb _ _ a.if-year-lt2000.false, le-leb _ _ a.if-year-gt9999.false, le-leb _ _ b.if-of_year-lt1.false, le-leb _ _ b.if-of_year-gt12.false)
+returns c = simp (le-leb _ _ c.if-year-lt2000.false, le-leb _ _ c.if-year-gt9999.false, le-leb _ _ c.if-of_year-lt1.false, le-leb _ _ c.if-of_year-gt12.false)
     c.one_number.ensures

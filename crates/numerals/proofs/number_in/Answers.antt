@@ -66,9 +66,6 @@ loop-place-preserved c = let text = c.args.text.now in
 pub overflow_cast-value : goal.overflow_cast-value
 overflow_cast-value c = omega arith
 
-pub one_number-requires : goal.one_number-requires
-one_number-requires c = tt
-
 pub returns : goal.returns
 returns c = let text = c.args.text.now in
     let lp = c.loop-place in

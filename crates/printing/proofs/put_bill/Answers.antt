@@ -6,8 +6,6 @@ pub put_text-requires : goal.put_text-requires
 put_text-requires c = bill_most
 
 pub returns : goal.returns
-returns c = let call = c in
-    let month = call in
-    let args = month.args in
-    bill_line_lem args.month args.number args.bill month.year-year.ensures month.month_of_year-of_year.ensures
-    call.put_text.ensures
+returns c = let args = c.args in
+    bill_line_lem args.month args.number args.bill c.year-year.ensures c.month_of_year-of_year.ensures
+    c.put_text.ensures

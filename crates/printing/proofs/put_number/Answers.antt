@@ -11,6 +11,4 @@ pub put_digits-requires : goal.put_digits-requires
 put_digits-requires c = room_for _ _ _ c.fits.ensures (ap not c.if-not-fits.false)
 
 pub returns : goal.returns
-returns c = let call = c in
-    let test = call in
-    put_wrote test.fits.ensures (ap not test.if-not-fits.false) call.put_digits.ensures
+returns c = put_wrote c.fits.ensures (ap not c.if-not-fits.false) c.put_digits.ensures

@@ -4,14 +4,6 @@ use Rattle.progress.proofs.Lines.{least_long, least_taken}
 use borrow.Author.Rules.{rules}
 use Rattle.progress.proofs.bill.Goals as goal
 
--- src/lib.rt:249:9
-pub readings-taken-requires : goal.readings-taken-requires
-readings-taken-requires c = search rules
-
--- src/lib.rt:250:9
-pub readings-given-requires : goal.readings-given-requires
-readings-given-requires c = search rules
-
 -- src/lib.rt:253:9
 pub slice_bounds-billing-end : goal.slice_bounds-billing-end
 slice_bounds-billing-end c = least_long c.args.delivered.now c.args.progress.stored _ c.readings-taken.ensures
@@ -19,10 +11,6 @@ slice_bounds-billing-end c = least_long c.args.delivered.now c.args.progress.sto
 -- src/lib.rt:254:9
 pub slice_bounds-billing-end-2 : goal.slice_bounds-billing-end-2
 slice_bounds-billing-end-2 c = least_long c.args.received.now c.args.progress.stored _ c.readings-given.ensures
-
--- src/lib.rt:251:5
-pub billing-requires : goal.billing-requires
-billing-requires c = search rules
 
 -- src/lib.rt:245:1
 pub returns : goal.returns

@@ -9,34 +9,16 @@ use Rattle.lines.proofs.Laws.{bill_no, bill_yes}
 use borrow.Author.Rules.{rules}
 use Rattle.progress.proofs.bill_line.Goals as goal
 
--- src/lib.rt:171:9
-pub bill_line-numbers-requires : goal.bill_line-numbers-requires
-bill_line-numbers-requires c = search rules
-
--- src/lib.rt:173:9
-pub fault_at-requires : goal.fault_at-requires
-fault_at-requires c = search rules
-
--- src/lib.rt:173:9
-pub shape_of-out-then-numbers-eq0 : goal.shape_of-out-then-numbers-eq0
-shape_of-out-then-numbers-eq0 c = search rules
-
 -- src/lib.rt:173:9
 pub returns-then-numbers-eq0 : goal.returns-then-numbers-eq0
 returns-then-numbers-eq0 c =
     λ d e.
-    let st = c in
-    let s = state_of st.args.progress d e in
-    ends_by _ _ _ _ _ _ _ (bill_no (bill_line st.args.line.now) _ c.bill_line-numbers.ensures s c.if-numbers-eq0.true) (c.fault_at.ensures d e)
-
--- src/lib.rt:176:19
-pub begin_month-requires : goal.begin_month-requires
-begin_month-requires c = search rules
+    let s = state_of c.args.progress d e in
+    ends_by _ _ _ _ _ _ _ (bill_no (bill_line c.args.line.now) _ c.bill_line-numbers.ensures s c.if-numbers-eq0.true) (c.fault_at.ensures d e)
 
 -- src/lib.rt:167:1
 pub returns : goal.returns
 returns c =
     λ d e.
-    let st = c in
-    let s = state_of st.args.progress d e in
-    quiet st.args.out.now st.args.at _ _ (bill_yes (bill_line st.args.line.now) _ c.bill_line-numbers.ensures s c.if-numbers-eq0.false ∙ ap (outcome []) (sym (c.begin_month.ensures d e)))
+    let s = state_of c.args.progress d e in
+    quiet c.args.out.now c.args.at _ _ (bill_yes (bill_line c.args.line.now) _ c.bill_line-numbers.ensures s c.if-numbers-eq0.false ∙ ap (outcome []) (sym (c.begin_month.ensures d e)))

@@ -3,10 +3,6 @@ use Rattle.lines.specs.Statement.{counted}
 use borrow.Author.Rules.{rules}
 use Rattle.progress.proofs.count.Goals as goal
 
--- src/lib.rt:61:5
-pub next_number-requires : goal.next_number-requires
-next_number-requires c = search rules
-
 -- src/lib.rt:57:1
 pub returns : goal.returns
 unfolding counted

@@ -6,30 +6,16 @@ use Rattle.lines.proofs.Laws.{critical_no, critical_yes}
 use borrow.Author.Rules.{rules}
 use Rattle.progress.proofs.critical_line.Goals as goal
 
--- src/lib.rt:186:9
-pub critical_line-numbers-requires : goal.critical_line-numbers-requires
-critical_line-numbers-requires c = search rules
-
--- src/lib.rt:188:9
-pub fault_at-requires : goal.fault_at-requires
-fault_at-requires c = search rules
-
--- src/lib.rt:188:9
-pub shape_of-out-then-numbers-eq0 : goal.shape_of-out-then-numbers-eq0
-shape_of-out-then-numbers-eq0 c = search rules
-
 -- src/lib.rt:188:9
 pub returns-then-numbers-eq0 : goal.returns-then-numbers-eq0
 returns-then-numbers-eq0 c =
     λ d e.
-    let st = c in
-    let s = state_of st.args.progress d e in
-    ends_by _ _ _ _ _ _ _ (critical_no (critical_line st.args.line.now) _ c.critical_line-numbers.ensures s c.if-numbers-eq0.true) (c.fault_at.ensures d e)
+    let s = state_of c.args.progress d e in
+    ends_by _ _ _ _ _ _ _ (critical_no (critical_line c.args.line.now) _ c.critical_line-numbers.ensures s c.if-numbers-eq0.true) (c.fault_at.ensures d e)
 
 -- src/lib.rt:182:1
 pub returns : goal.returns
 returns c =
     λ d e.
-    let st = c in
-    let s = state_of st.args.progress d e in
-    quiet st.args.out.now st.args.at _ _ (critical_yes (critical_line st.args.line.now) _ c.critical_line-numbers.ensures s c.if-numbers-eq0.false)
+    let s = state_of c.args.progress d e in
+    quiet c.args.out.now c.args.at _ _ (critical_yes (critical_line c.args.line.now) _ c.critical_line-numbers.ensures s c.if-numbers-eq0.false)

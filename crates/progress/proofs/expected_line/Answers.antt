@@ -7,79 +7,42 @@ use borrow.Author.Rules.{rules}
 use Rattle.progress.proofs.expected_line.Goals as goal
 
 -- src/lib.rt:323:9
-pub opening_line-requires : goal.opening_line-requires
-opening_line-requires c = search rules
-
--- src/lib.rt:323:9
-pub shape_of-out-then-expected-lt-BILL_EXPECTED : goal.shape_of-out-then-expected-lt-BILL_EXPECTED
-shape_of-out-then-expected-lt-BILL_EXPECTED c = search rules
-
--- src/lib.rt:323:9
 pub returns-then-expected-lt-BILL_EXPECTED : goal.returns-then-expected-lt-BILL_EXPECTED
-returns-then-expected-lt-BILL_EXPECTED c = let st = c in
-    let d = st.args.delivered.now in
-    let e = st.args.received.now in
-    let l = st.args.line.now in
-    let s = state_of st.args.progress d e in
+returns-then-expected-lt-BILL_EXPECTED c = let d = c.args.delivered.now in
+    let e = c.args.received.now in
+    let l = c.args.line.now in
+    let s = state_of c.args.progress d e in
     ends_same c.opening_line.result.progress d e (ends_by _ _ _ _ _ _ _ (expected_opening l s c.if-expected-lt-BILL_EXPECTED.true) (c.opening_line.ensures d e))
 
 -- src/lib.rt:326:9
-pub bill_line-requires : goal.bill_line-requires
-bill_line-requires c = search rules
-
--- src/lib.rt:326:9
-pub shape_of-out-then-expected-eq-BILL_EXPECTED : goal.shape_of-out-then-expected-eq-BILL_EXPECTED
-shape_of-out-then-expected-eq-BILL_EXPECTED c = search rules
-
--- src/lib.rt:326:9
 pub returns-then-expected-eq-BILL_EXPECTED : goal.returns-then-expected-eq-BILL_EXPECTED
-returns-then-expected-eq-BILL_EXPECTED c = let st = c in
-    let d = st.args.delivered.now in
-    let e = st.args.received.now in
-    let l = st.args.line.now in
-    let s = state_of st.args.progress d e in
+returns-then-expected-eq-BILL_EXPECTED c = let d = c.args.delivered.now in
+    let e = c.args.received.now in
+    let l = c.args.line.now in
+    let s = state_of c.args.progress d e in
     ends_same c.bill_line.result.progress d e (ends_by _ _ _ _ _ _ _ (expected_bill l s c.if-expected-lt-BILL_EXPECTED.false c.if-expected-eq-BILL_EXPECTED.true) (c.bill_line.ensures d e))
 
 -- src/lib.rt:329:9
-pub critical_line-requires : goal.critical_line-requires
-critical_line-requires c = search rules
-
--- src/lib.rt:329:9
-pub shape_of-out-then-expected-eq-CRITICAL_EXPECTED : goal.shape_of-out-then-expected-eq-CRITICAL_EXPECTED
-shape_of-out-then-expected-eq-CRITICAL_EXPECTED c = search rules
-
--- src/lib.rt:329:9
 pub returns-then-expected-eq-CRITICAL_EXPECTED : goal.returns-then-expected-eq-CRITICAL_EXPECTED
-returns-then-expected-eq-CRITICAL_EXPECTED c = let st = c in
-    let d = st.args.delivered.now in
-    let e = st.args.received.now in
-    let l = st.args.line.now in
-    let s = state_of st.args.progress d e in
+returns-then-expected-eq-CRITICAL_EXPECTED c = let d = c.args.delivered.now in
+    let e = c.args.received.now in
+    let l = c.args.line.now in
+    let s = state_of c.args.progress d e in
     ends_same c.critical_line.result.progress d e (ends_by _ _ _ _ _ _ _ (expected_critical l s c.if-expected-lt-BILL_EXPECTED.false c.if-expected-eq-BILL_EXPECTED.false c.if-expected-eq-CRITICAL_EXPECTED.true) (c.critical_line.ensures d e))
 
 -- src/lib.rt:332:9
-pub run_or_bill_line-requires : goal.run_or_bill_line-requires
-run_or_bill_line-requires c = search rules
-
--- src/lib.rt:332:9
-pub shape_of-out-then-expected-eq-RUN_EXPECTED : goal.shape_of-out-then-expected-eq-RUN_EXPECTED
-shape_of-out-then-expected-eq-RUN_EXPECTED c = search rules
-
--- src/lib.rt:332:9
 pub returns-then-expected-eq-RUN_EXPECTED : goal.returns-then-expected-eq-RUN_EXPECTED
-returns-then-expected-eq-RUN_EXPECTED c = let st = c in
-    let d = st.args.delivered.now in
-    let e = st.args.received.now in
-    let l = st.args.line.now in
-    let s = state_of st.args.progress d e in
+returns-then-expected-eq-RUN_EXPECTED c = let d = c.args.delivered.now in
+    let e = c.args.received.now in
+    let l = c.args.line.now in
+    let s = state_of c.args.progress d e in
     let line = c.run_or_bill_line.ensures in
     record { ends = ends_by _ _ _ _ _ _ _ (expected_later l s c.if-expected-lt-BILL_EXPECTED.false c.if-expected-eq-BILL_EXPECTED.false c.if-expected-eq-CRITICAL_EXPECTED.false c.if-expected-eq-RUN_EXPECTED.true) line.ends; registers = line.registers }
 
 -- src/lib.rt:310:1
 pub returns : goal.returns
-returns c = let st = c in
-    let d = st.args.delivered.now in
-    let e = st.args.received.now in
-    let l = st.args.line.now in
-    let s = state_of st.args.progress d e in
-    ends_same st.args.progress d e (quiet st.args.out.now st.args.at _ _ (expected_none l s c.if-expected-lt-BILL_EXPECTED.false c.if-expected-eq-BILL_EXPECTED.false c.if-expected-eq-CRITICAL_EXPECTED.false c.if-expected-eq-RUN_EXPECTED.false))
+returns c = let d = c.args.delivered.now in
+    let e = c.args.received.now in
+    let l = c.args.line.now in
+    let s = state_of c.args.progress d e in
+    ends_same c.args.progress d e (quiet c.args.out.now c.args.at _ _ (expected_none l s c.if-expected-lt-BILL_EXPECTED.false c.if-expected-eq-BILL_EXPECTED.false c.if-expected-eq-CRITICAL_EXPECTED.false c.if-expected-eq-RUN_EXPECTED.false))

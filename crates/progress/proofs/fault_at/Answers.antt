@@ -5,14 +5,6 @@ use Rattle.progress.proofs.Lines.{puts}
 use borrow.Author.Rules.{rules}
 use Rattle.progress.proofs.fault_at.Goals as goal
 
--- src/lib.rt:74:13
-pub put_line-requires : goal.put_line-requires
-put_line-requires c = search rules
-
--- src/lib.rt:66:1
-pub shape_of-out : goal.shape_of-out
-shape_of-out c = search rules
-
 -- src/lib.rt:66:1
 pub returns : goal.returns
 unfolding fault

@@ -4,10 +4,6 @@ use Rattle.lines.specs.Statement.{next_number}
 use borrow.Author.Rules.{rules}
 use Rattle.progress.proofs.next_number.Goals as goal
 
--- src/lib.rt:51:16
-pub overflow_add-result : goal.overflow_add-result
-overflow_add-result c = search rules
-
 -- src/lib.rt:51:9
 pub returns-then-number-lt18446744073709551615 : goal.returns-then-number-lt18446744073709551615
 unfolding next_number

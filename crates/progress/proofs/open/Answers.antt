@@ -6,6 +6,5 @@ use Rattle.progress.proofs.open.Goals as goal
 pub returns : goal.returns
 returns c =
     λ d e.
-    let st = c in
-    account_opens st.args.out.now st.args.at _ _ (state_of st.args.progress d e) _ c.account_reply-reply.ensures st.requires
+    account_opens c.args.out.now c.args.at _ _ (state_of c.args.progress d e) _ c.account_reply-reply.ensures c.requires
     c.put_open-end.ensures

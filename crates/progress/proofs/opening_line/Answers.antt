@@ -13,38 +13,34 @@ use Rattle.progress.proofs.opening_line.Goals as goal
 pub returns-then-numbers-eq0 : goal.returns-then-numbers-eq0
 returns-then-numbers-eq0 c =
     λ d e.
-    let st = c in
-    let v = opening_line st.args.progress.expected st.args.line.now in
-    ends_by _ _ _ _ _ _ _ (opening_no v _ c.opening_line-numbers.ensures (state_of st.args.progress d e) c.if-numbers-eq0.true) (c.fault_at.ensures d e)
+    let v = opening_line c.args.progress.expected c.args.line.now in
+    ends_by _ _ _ _ _ _ _ (opening_no v _ c.opening_line-numbers.ensures (state_of c.args.progress d e) c.if-numbers-eq0.true) (c.fault_at.ensures d e)
 
 pub with_values-values-requires : goal.with_values-values-requires
-with_values-values-requires c = let st = c in
-    let k = st.args.progress.expected in record {
-      expected_bound = st.requires.expected_bound;
-      count_le_most_nameplates = rw c.opening_line-numbers.ensures (line_few k st.args.line.now st.requires.expected_bound);
-    }
+with_values-values-requires c = let k = c.args.progress.expected in record {
+  expected_bound = c.requires.expected_bound;
+  count_le_most_nameplates = rw c.opening_line-numbers.ensures (line_few k c.args.line.now c.requires.expected_bound);
+}
 
 pub returns-then-expected-lt13 : goal.returns-then-expected-lt13
 returns-then-expected-lt13 c =
     λ d e.
-    let st = c in
-    let s = state_of st.args.progress d e in
-    let l = st.args.line.now in
+    let s = state_of c.args.progress d e in
+    let l = c.args.line.now in
     let read = c.opening_line-numbers.ensures in
     let some = c.if-numbers-eq0.false in
-    let kept = line_kept s l _ _ st.requires.expected_bound read some c.with_values-values.ensures in
-    quiet st.args.out.now st.args.at _ _
+    let kept = line_kept s l _ _ c.requires.expected_bound read some c.with_values-values.ensures in
+    quiet c.args.out.now c.args.at _ _
     (opening_more (opening_line s.expected l) _ read s some c.if-expected-lt13.true ∙ ap (outcome []) (sym kept))
 
 pub returns : goal.returns
 returns c =
     λ d e.
-    let st = c in
-    let s = state_of st.args.progress d e in
-    let l = st.args.line.now in
+    let s = state_of c.args.progress d e in
+    let l = c.args.line.now in
     let read = c.opening_line-numbers.ensures in
     let some = c.if-numbers-eq0.false in
-    let kept = line_kept s l _ _ st.requires.expected_bound read some c.with_values-values.ensures in
+    let kept = line_kept s l _ _ c.requires.expected_bound read some c.with_values-values.ensures in
     ends_by _ _ _ _ _ _ _
     (opening_last (opening_line s.expected l) _ read s some c.if-expected-lt13.false ∙ ap opened (sym kept))
     (c.«open».ensures d e)

@@ -3,12 +3,6 @@ use borrow.Author.Tests.{lt-ltb, le-ltb}
 use Rattle.records.specs.Records.{billing_codes}
 use Rattle.records.proofs.is_billing.Goals as goal
 
-pub number_at-requires : goal.number_at-requires
-number_at-requires c = tt
-
-pub number_at-requires-then-number_at-lt-LIMIT_32 : goal.number_at-requires-then-number_at-lt-LIMIT_32
-number_at-requires-then-number_at-lt-LIMIT_32 c = tt
-
 pub returns-then-number_at-lt-LIMIT_32 : goal.returns-then-number_at-lt-LIMIT_32
 unfolding billing_codes
 returns-then-number_at-lt-LIMIT_32 c = rw (← c.number_at.ensures, lt-ltb _ _ c.if-number_at-lt-LIMIT_32.true, ← c.number_at-then-number_at-lt-LIMIT_32.ensures)

@@ -2,12 +2,6 @@
 use Rattle.records.specs.Records.{opening_codes}
 use Rattle.records.proofs.is_opening.Goals as goal
 
-pub known_terms-requires : goal.known_terms-requires
-known_terms-requires c = tt
-
-pub number_at-requires : goal.number_at-requires
-number_at-requires c = tt
-
 pub returns-then-known_terms : goal.returns-then-known_terms
 unfolding opening_codes
 returns-then-known_terms c = rw (← c.known_terms.ensures, c.if-known_terms.true, ← c.number_at.ensures)

@@ -3,32 +3,20 @@ use borrow.Author.Tests.{lt-leb, le-leb}
 use Rattle.records.specs.Sections.{known_terms}
 use Rattle.records.proofs.known_terms.Goals as goal
 
-pub number_from-requires : goal.number_from-requires
-number_from-requires c = tt
-
 pub returns-then-number_from-gt1 : goal.returns-then-number_from-gt1
 unfolding known_terms
 returns-then-number_from-gt1 c = rw (← c.number_from.ensures, lt-leb _ _ c.if-number_from-gt1.true)
 
-pub number_from-requires-2 : goal.number_from-requires-2
-number_from-requires-2 c = tt
-
 pub returns-then-number_from-gt1-2 : goal.returns-then-number_from-gt1-2
 unfolding known_terms
-returns-then-number_from-gt1-2 c = let one = c in
-    rw (← one.number_from.ensures, le-leb _ _ one.if-number_from-gt1.false, ← c.number_from-2.ensures, lt-leb _ _ c.if-number_from-gt1-2.true)
-
-pub number_from-requires-3 : goal.number_from-requires-3
-number_from-requires-3 c = tt
+returns-then-number_from-gt1-2 c = rw (← c.number_from.ensures, le-leb _ _ c.if-number_from-gt1.false, ← c.number_from-2.ensures, lt-leb _ _ c.if-number_from-gt1-2.true)
 
 pub returns : goal.returns
 unfolding known_terms
-returns c = let two = c in
-    let one = two in
-    rw (
-      ← one.number_from.ensures,
-      le-leb _ _ one.if-number_from-gt1.false,
-      ← two.number_from-2.ensures,
-      le-leb _ _ two.if-number_from-gt1-2.false,
-      ← c.number_from-3.ensures,
-    )
+returns c = rw (
+  ← c.number_from.ensures,
+  le-leb _ _ c.if-number_from-gt1.false,
+  ← c.number_from-2.ensures,
+  le-leb _ _ c.if-number_from-gt1-2.false,
+  ← c.number_from-3.ensures,
+)

@@ -8,8 +8,7 @@ use Rattle.records.proofs.Writing.{put_next, all_put}
 use Rattle.records.proofs.write_numbers.Goals as goal
 
 pub returns-then-buffer-start : goal.returns-then-buffer-start
-returns-then-buffer-start c = let st = c in
-    sym (sets-out st.args.buffer.now st.args.start st.args.numbers.now c.if-buffer-start.true)
+returns-then-buffer-start c = sym (sets-out c.args.buffer.now c.args.start c.args.numbers.now c.if-buffer-start.true)
 
 pub loop-place-init : goal.loop-place-init
 loop-place-init c = (omega arith, refl, rw add-zero)
@@ -23,9 +22,6 @@ offset_bounds-numbers-place c = omega arith
 pub bounds-numbers-place : goal.bounds-numbers-place
 bounds-numbers-place c = omega arith
 
-pub put-requires : goal.put-requires
-put-requires c = tt
-
 pub overflow_add-place : goal.overflow_add-place
 overflow_add-place c = omega arith
 
@@ -33,18 +29,16 @@ pub loop-place-smaller : goal.loop-place-smaller
 loop-place-smaller c = omega arith
 
 pub loop-place-preserved : goal.loop-place-preserved
-loop-place-preserved c = let st = c in
-    let lp = c in (
-      omega arith,
-      c.put.auto.buffer ∙ lp.loop-place.invariant.1,
-      rw c.put.ensures
-          (put_next lp.loop-place.buffer st.args.numbers.now st.args.start lp.loop-place.place (omega arith) ∙ lp.loop-place.invariant.2),
-    )
+loop-place-preserved c = (
+  omega arith,
+  c.put.auto.buffer ∙ c.loop-place.invariant.1,
+  rw c.put.ensures
+      (put_next c.loop-place.buffer c.args.numbers.now c.args.start c.loop-place.place (omega arith) ∙ c.loop-place.invariant.2),
+)
 
 pub shape_of-buffer : goal.shape_of-buffer
 shape_of-buffer c = c.loop-place.invariant.1
 
 pub returns : goal.returns
-returns c = let st = c in
-    let lp = c.loop-place in
-    sym (all_put lp.buffer st.args.numbers.now (st.args.start + lp.place) lp.place (omega arith)) ∙ lp.invariant.2
+returns c = let lp = c.loop-place in
+    sym (all_put lp.buffer c.args.numbers.now (c.args.start + lp.place) lp.place (omega arith)) ∙ lp.invariant.2

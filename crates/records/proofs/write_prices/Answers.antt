@@ -6,9 +6,6 @@ use Rattle.records.proofs.write_prices.Goals as goal
 pub slice_bounds-write_numbers-end : goal.slice_bounds-write_numbers-end
 slice_bounds-write_numbers-end c = refl
 
-pub write_numbers-requires : goal.write_numbers-requires
-write_numbers-requires c = tt
-
 pub shape_of-buffer : goal.shape_of-buffer
 shape_of-buffer c = c.write_numbers.auto.buffer
 

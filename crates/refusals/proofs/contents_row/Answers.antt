@@ -8,50 +8,46 @@ returns-then-prices_refused c = rw (← c.prices_refused.ensures, c.if-prices_re
 
 pub returns-then-nameplates : goal.returns-then-nameplates
 unfolding contents_rows
-returns-then-nameplates c = let asked = c in
-    rw (
-      ← asked.prices_refused.ensures,
-      asked.if-prices_refused.false,
-      ← asked.nameplates_refused-nameplates.ensures,
-      c.if-nameplates.true,
-    )
+returns-then-nameplates c = rw (
+  ← c.prices_refused.ensures,
+  c.if-prices_refused.false,
+  ← c.nameplates_refused-nameplates.ensures,
+  c.if-nameplates.true,
+)
 
 pub returns-then-capacity : goal.returns-then-capacity
 unfolding contents_rows
-returns-then-capacity c = let asked = c in
-    rw (
-      ← asked.prices_refused.ensures,
-      asked.if-prices_refused.false,
-      ← asked.nameplates_refused-nameplates.ensures,
-      c.if-nameplates.false,
-      ← asked.capacity_refused-capacity.ensures,
-      c.if-capacity.true,
-    )
+returns-then-capacity c = rw (
+  ← c.prices_refused.ensures,
+  c.if-prices_refused.false,
+  ← c.nameplates_refused-nameplates.ensures,
+  c.if-nameplates.false,
+  ← c.capacity_refused-capacity.ensures,
+  c.if-capacity.true,
+)
 
 pub returns-then-bridge_refused : goal.returns-then-bridge_refused
 unfolding contents_rows
-returns-then-bridge_refused c = let asked = c in
-    rw (
-      ← asked.prices_refused.ensures,
-      asked.if-prices_refused.false,
-      ← asked.nameplates_refused-nameplates.ensures,
-      c.if-nameplates.false,
-      ← asked.capacity_refused-capacity.ensures,
-      c.if-capacity.false,
-      ← c.bridge_refused.ensures,
-      c.if-bridge_refused.true,
-    )
+returns-then-bridge_refused c = rw (
+  ← c.prices_refused.ensures,
+  c.if-prices_refused.false,
+  ← c.nameplates_refused-nameplates.ensures,
+  c.if-nameplates.false,
+  ← c.capacity_refused-capacity.ensures,
+  c.if-capacity.false,
+  ← c.bridge_refused.ensures,
+  c.if-bridge_refused.true,
+)
 
 pub returns-else-bridge_refused : goal.returns-else-bridge_refused
 unfolding contents_rows
-returns-else-bridge_refused c = let asked = c in
-    rw (
-      ← asked.prices_refused.ensures,
-      asked.if-prices_refused.false,
-      ← asked.nameplates_refused-nameplates.ensures,
-      c.if-nameplates.false,
-      ← asked.capacity_refused-capacity.ensures,
-      c.if-capacity.false,
-      ← c.bridge_refused.ensures,
-      c.if-bridge_refused.false,
-    )
+returns-else-bridge_refused c = rw (
+  ← c.prices_refused.ensures,
+  c.if-prices_refused.false,
+  ← c.nameplates_refused-nameplates.ensures,
+  c.if-nameplates.false,
+  ← c.capacity_refused-capacity.ensures,
+  c.if-capacity.false,
+  ← c.bridge_refused.ensures,
+  c.if-bridge_refused.false,
+)

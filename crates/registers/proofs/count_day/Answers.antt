@@ -11,21 +11,19 @@ pub loop-from-init : goal.loop-from-init
 loop-from-init c = (omega arith, omega arith, day_start _ _ _ _ _ _ c.requires.counted)
 
 pub stretch_end-to-requires : goal.stretch_end-to-requires
-stretch_end-to-requires c = let st = c in
-    (omega arith, omega (arith, c.length_by-length.ensures, length_by-ge st.args.clock), rw c.length_by-length.ensures (length_by-even st.args.clock))
+stretch_end-to-requires c = (omega arith, omega (arith, c.length_by-length.ensures, length_by-ge c.args.clock), rw c.length_by-length.ensures (length_by-even c.args.clock))
 
 pub count_stretch-so_far-requires : goal.count_stretch-so_far-requires
-count_stretch-so_far-requires c = let st = c in
-    let day = c in record {
-      day_counted = c.loop-from.invariant.2;
-      before_bound = st.requires.before_bound;
-      start_value = st.requires.start_value;
-      register_len = st.requires.register_len;
-      clock_value = st.requires.clock_value;
-      to_bound = omega (arith, c.stretch_end-to.ensures.upper_bound, day.length_by-length.ensures ∙ day_length-is _ _ st.requires.clock_value);
-      follows = c.stretch_end-to.ensures.follows;
-      from_value = (c.loop-from.invariant.1, c.stretch_end-to.ensures.upper_bound.1);
-    }
+count_stretch-so_far-requires c = record {
+  day_counted = c.loop-from.invariant.2;
+  before_bound = c.requires.before_bound;
+  start_value = c.requires.start_value;
+  register_len = c.requires.register_len;
+  clock_value = c.requires.clock_value;
+  to_bound = omega (arith, c.stretch_end-to.ensures.upper_bound, c.length_by-length.ensures ∙ day_length-is _ _ c.requires.clock_value);
+  follows = c.stretch_end-to.ensures.follows;
+  from_value = (c.loop-from.invariant.1, c.stretch_end-to.ensures.upper_bound.1);
+}
 
 pub loop-from-smaller : goal.loop-from-smaller
 loop-from-smaller c = omega (arith, c.stretch_end-to.ensures.upper_bound.0, c.stretch_end-to.ensures.follows.some)
@@ -34,7 +32,6 @@ pub loop-from-preserved : goal.loop-from-preserved
 loop-from-preserved c = (c.stretch_end-to.ensures.upper_bound.0, c.stretch_end-to.ensures.upper_bound.1, c.count_stretch-so_far.ensures)
 
 pub returns : goal.returns
-returns c = let st = c in
-    let e : c.loop-from.from ≡ day_length st.args.month (st.args.before + 1) =
-    omega (arith, c.length_by-length.ensures ∙ day_length-is _ _ st.requires.clock_value) in
+returns c = let e : c.loop-from.from ≡ day_length c.args.month (c.args.before + 1) =
+    omega (arith, c.length_by-length.ensures ∙ day_length-is _ _ c.requires.clock_value) in
     day_end _ _ _ _ _ _ (rw e at c.loop-from.invariant.2)

@@ -27,24 +27,22 @@ pub overflow_add-before : goal.overflow_add-before
 overflow_add-before c = omega (arith, c.days_in-days.ensures, days_in-le c.args.month)
 
 pub count_day-count-requires : goal.count_day-count-requires
-count_day-count-requires c = let at = c in record {
-  counted = at.loop-before.invariant.2;
-  before_bound = omega (arith, at.days_in-days.ensures);
-  start_value = at.loop-before.invariant.1;
-  register_len = at.requires;
+count_day-count-requires c = record {
+  counted = c.loop-before.invariant.2;
+  before_bound = omega (arith, c.days_in-days.ensures);
+  start_value = c.loop-before.invariant.1;
+  register_len = c.requires;
   clock_value = clock (goal.at.count_day-count-requires c).After-clock_on-clock;
 }
 
 pub overflow_add-start : goal.overflow_add-start
-overflow_add-start c = let st = c in
-    let lp = c in
-    let h : lp.loop-before.before < days_in st.args.month = omega (arith, lp.days_in-days.ensures) in
+overflow_add-start c = let h : c.loop-before.before < days_in c.args.month = omega (arith, c.days_in-days.ensures) in
     omega (
       arith,
       length-is (goal.at.overflow_add-start c).After-length_by-start,
-      month_length-le st.args.month,
-      in_month st.args.schedule.now st.args.month st.args.critical_days st.args.register.now lp.loop-before.before
-          (day_length st.args.month (lp.loop-before.before + 1))
+      month_length-le c.args.month,
+      in_month c.args.schedule.now c.args.month c.args.critical_days c.args.register.now c.loop-before.before
+          (day_length c.args.month (c.loop-before.before + 1))
           h
           (le_refl _),
     )

@@ -39,10 +39,10 @@ quarter c p l h =
     quarter_of-is _ _ _ st.requires.clock_value (omega (arith, each, c.quarter_by-first_quarter.ensures))
 
 -- So that of the second reading follows that of the first.
-next-quarter : (c : In-loop-place) →
+next_quarter : (c : In-loop-place) →
     c.quarter_by-first_quarter.result + (c.loop-place.place - c.args.from) + 1
     ≡ quarter_of c.args.month (c.args.before + 1) (c.loop-place.place + 1)
-next-quarter c = omega (arith, quarter c (c.loop-place.place + 1) (omega arith) (whole c), c.loop-place.invariant.0)
+next_quarter c = omega (arith, quarter c (c.loop-place.place + 1) (omega arith) (whole c), c.loop-place.invariant.0)
 
 -- The places of both quarters are within the schedule.
 in_row : (c : In-loop-place) →
@@ -54,7 +54,7 @@ in_row c =
       arith,
       c.day_hours-day_hours.ensures.0,
       row_start-le (season_of st.args.month) (day_kind_of st.args.month (st.args.before + 1)),
-      next-quarter c,
+      next_quarter c,
       quarter_of-lt st.args.month (st.args.before + 1) (c.loop-place.place + 1) (omega (arith, whole c, st.requires.to_bound)),
     )
 
@@ -62,12 +62,10 @@ pub overflow_add-day : goal.overflow_add-day
 overflow_add-day c = omega (arith, days_in-le c.args.month)
 
 pub overflow_cast-from : goal.overflow_cast-from
-overflow_cast-from c = let st = c in
-    omega (arith, st.requires, day_length-le st.args.month (st.args.before + 1))
+overflow_cast-from c = omega (arith, c.requires, day_length-le c.args.month (c.args.before + 1))
 
 pub loop-place-init : goal.loop-place-init
-loop-place-init c = let st = c in
-    (omega arith, omega (arith, st.requires.follows.some), st.requires.from_value.0, st.requires.day_counted)
+loop-place-init c = (omega arith, omega (arith, c.requires.follows.some), c.requires.from_value.0, c.requires.day_counted)
 
 pub overflow_sub-quarter : goal.overflow_sub-quarter
 overflow_sub-quarter c = omega arith
@@ -112,15 +110,13 @@ pub bounds-register-start-in-loop-place : goal.bounds-register-start-in-loop-pla
 bounds-register-start-in-loop-place c = inside (goal.at.bounds-register-start-in-loop-place c).In-loop-place
 
 pub add_pair-so_far-requires : goal.add_pair-so_far-requires
-add_pair-so_far-requires c = let lp = c in
-    let st = lp in
-    room
+add_pair-so_far-requires c = room
     _ _ _ _
     (λ i. omega (arith, c.shared_slice_known-in-loop-place-2-1.given i))
     _ _ _
-    lp.loop-place.invariant.3
-    st.requires.before_bound
-    (omega (arith, st.requires.to_bound))
+    c.loop-place.invariant.3
+    c.requires.before_bound
+    (omega (arith, c.requires.to_bound))
 
 pub overflow_add-place : goal.overflow_add-place
 overflow_add-place c = omega (arith, inside (goal.at.overflow_add-place c).In-loop-place)
@@ -129,24 +125,21 @@ pub loop-place-smaller : goal.loop-place-smaller
 loop-place-smaller c = omega arith
 
 pub loop-place-preserved : goal.loop-place-preserved
-loop-place-preserved c = let il = c in
-    let lp = il in
-    let st = lp in
-    let told = lp.day_hours-day_hours.ensures in (
-      omega arith,
-      omega (arith, whole (goal.at.loop-place-preserved c).In-loop-place),
-      omega (arith, lp.loop-place.invariant.2),
-      pair_step
-          _ _ _ _ _
-          lp.loop-place.place
-          _ _
-          st.requires.start_value
-          lp.loop-place.invariant.2
-          (period_is _ _ _ _ _ told.0 told.1 (quarter (goal.at.loop-place-preserved c).In-loop-place lp.loop-place.place (omega arith) (omega arith)) refl)
-          (period_is _ _ _ _ _ told.0 told.1 (next-quarter (goal.at.loop-place-preserved c).In-loop-place) refl)
-          lp.loop-place.invariant.3
-          c.add_pair-so_far.ensures,
-    )
+loop-place-preserved c = let told = c.day_hours-day_hours.ensures in (
+  omega arith,
+  omega (arith, whole (goal.at.loop-place-preserved c).In-loop-place),
+  omega (arith, c.loop-place.invariant.2),
+  pair_step
+      _ _ _ _ _
+      c.loop-place.place
+      _ _
+      c.requires.start_value
+      c.loop-place.invariant.2
+      (period_is _ _ _ _ _ told.0 told.1 (quarter (goal.at.loop-place-preserved c).In-loop-place c.loop-place.place (omega arith) (omega arith)) refl)
+      (period_is _ _ _ _ _ told.0 told.1 (next_quarter (goal.at.loop-place-preserved c).In-loop-place) refl)
+      c.loop-place.invariant.3
+      c.add_pair-so_far.ensures,
+)
 
 pub returns : goal.returns
 returns c = let e : c.loop-place.place ≡ c.args.to = omega arith in

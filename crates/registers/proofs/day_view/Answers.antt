@@ -13,7 +13,7 @@ use Rattle.registers.proofs.day_view.Goals as goal
 use Rattle.registers.proofs.day_view.Goals.{After-day_length, Else-empty_view}
 
 -- Past the first test there is a view, and its readings end within the month.
-some-view : (c : Else-empty_view) →
+some_view : (c : Else-empty_view) →
     empty_view
     c.args.delivered.now
     c.args.received.now
@@ -21,7 +21,7 @@ some-view : (c : Else-empty_view) →
     c.args.day
     c.args.number
     ≡ false
-some-view c = sym c.empty_view.ensures ∙ c.if-empty_view.false
+some_view c = sym c.empty_view.ensures ∙ c.if-empty_view.false
 
 within : (c : After-day_length) →
     c.readings_through-start.result + c.day_length.result
@@ -43,7 +43,7 @@ returns-then-empty_view c = record {
 }
 
 pub overflow_sub-day : goal.overflow_sub-day
-overflow_sub-day c = (viewed _ _ _ _ _ (some-view (goal.at.overflow_sub-day c).Else-empty_view)).first
+overflow_sub-day c = (viewed _ _ _ _ _ (some_view (goal.at.overflow_sub-day c).Else-empty_view)).first
 
 pub overflow_add-end : goal.overflow_add-end
 overflow_add-end c = omega (arith, within (goal.at.overflow_add-end c).After-day_length, month_length-le c.args.month)
@@ -52,16 +52,16 @@ pub offset_bounds-delivered-start : goal.offset_bounds-delivered-start
 offset_bounds-delivered-start c = omega (arith, within (goal.at.offset_bounds-delivered-start c).After-day_length, month_length-le c.args.month)
 
 pub slice_bounds-result-end-then-number-eq0 : goal.slice_bounds-result-end-then-number-eq0
-slice_bounds-result-end-then-number-eq0 c = omega (arith, within (goal.at.slice_bounds-result-end-then-number-eq0 c).After-day_length, (viewed _ _ _ _ _ (some-view (goal.at.slice_bounds-result-end-then-number-eq0 c).Else-empty_view)).delivered_length)
+slice_bounds-result-end-then-number-eq0 c = omega (arith, within (goal.at.slice_bounds-result-end-then-number-eq0 c).After-day_length, (viewed _ _ _ _ _ (some_view (goal.at.slice_bounds-result-end-then-number-eq0 c).Else-empty_view)).delivered_length)
 
 pub slice_bounds-result-end-2 : goal.slice_bounds-result-end-2
-slice_bounds-result-end-2 c = omega (arith, within (goal.at.slice_bounds-result-end-2 c).After-day_length, (viewed _ _ _ _ _ (some-view (goal.at.slice_bounds-result-end-2 c).Else-empty_view)).received_length)
+slice_bounds-result-end-2 c = omega (arith, within (goal.at.slice_bounds-result-end-2 c).After-day_length, (viewed _ _ _ _ _ (some_view (goal.at.slice_bounds-result-end-2 c).Else-empty_view)).received_length)
 
 pub returns-then-number-eq0 : goal.returns-then-number-eq0
 returns-then-number-eq0 c = record {
   part = day_part
       _ _ _ _ _ _
-      (some-view (goal.at.returns-then-number-eq0 c).Else-empty_view)
+      (some_view (goal.at.returns-then-number-eq0 c).Else-empty_view)
       c.args.delivered
       (rw (eq-eqb _ _ c.if-number-eq0.true))
       _ _
@@ -79,7 +79,7 @@ pub returns : goal.returns
 returns c = record {
   part = day_part
       _ _ _ _ _ _
-      (some-view (goal.at.returns c).Else-empty_view)
+      (some_view (goal.at.returns c).Else-empty_view)
       c.args.received
       (rw (ne_eqb _ _ c.if-number-eq0.false))
       _ _

@@ -14,39 +14,27 @@ slice_bounds-keep-end c = let end = place_within 10 c.args.input.now in
     simp length-take (omega (arith, c.place_of-end.ensures))
 
 pub returns-then-end-input : goal.returns-then-end-input
-returns-then-end-input c = let kept = c in
-    let found = kept in
-    let args = found.args in
+returns-then-end-input c = let args = c.args in
     let x = args.session.progress in
     let d = args.delivered.now in
     let e = args.received.now in
-    all_held args.line.now kept.keep-kept.result.line args.input.now args.out.now args.session.held kept.keep-kept.result.held
-    found.place_of-end.result args.at (state_of x d e) _ (readings_same (state_of x d e) x.stored d e refl refl) found.place_of-end.ensures
-    (search rules) kept.keep-kept.ensures c.if-end-input.true
+    all_held args.line.now c.keep-kept.result.line args.input.now args.out.now args.session.held c.keep-kept.result.held
+    c.place_of-end.result args.at (state_of x d e) _ (readings_same (state_of x d e) x.stored d e refl refl) c.place_of-end.ensures
+    (search rules) c.keep-kept.ensures c.if-end-input.true
 
 pub read_held-ended-requires : goal.read_held-ended-requires
-read_held-ended-requires c = let kept = c in
-    let found = kept in
-    let args = found.args in
-    kept_within args.line.now kept.keep-kept.result.line args.input.now args.session.held kept.keep-kept.result.held
-    found.place_of-end.result (search rules) kept.keep-kept.ensures
+read_held-ended-requires c = let args = c.args in
+    kept_within args.line.now c.keep-kept.result.line args.input.now args.session.held c.keep-kept.result.held
+    c.place_of-end.result (search rules) c.keep-kept.ensures
 
 pub overflow_add-result : goal.overflow_add-result
-overflow_add-result c = let else = c in
-    let found = else in
-    let start = found in
-    omega (arith, place_within 10 start.args.input.now, found.place_of-end.ensures, else.if-end-input.false, start.well_formed.1.1.1.1.0.0)
+overflow_add-result c = omega (arith, place_within 10 c.args.input.now, c.place_of-end.ensures, c.if-end-input.false, c.well_formed.1.1.1.1.0.0)
 
 pub returns : goal.returns
-returns c = let read = c in
-    let else = read in
-    let kept = else in
-    let found = kept in
-    let start = found in
-    let args = start.args in
+returns c = let args = c.args in
     let x = args.session.progress in
     let d = args.delivered.now in
     let e = args.received.now in
-    line_ended args.line.now kept.keep-kept.result.line args.input.now args.out.now args.session.held kept.keep-kept.result.held
-    found.place_of-end.result args.at (state_of x d e) _ (readings_same (state_of x d e) x.stored d e refl refl) found.place_of-end.ensures
-    (search rules) kept.keep-kept.ensures _ read.read_held-ended.result.at _ _ else.if-end-input.false start.requires read.read_held-ended.ensures
+    line_ended args.line.now c.keep-kept.result.line args.input.now args.out.now args.session.held c.keep-kept.result.held
+    c.place_of-end.result args.at (state_of x d e) _ (readings_same (state_of x d e) x.stored d e refl refl) c.place_of-end.ensures
+    (search rules) c.keep-kept.ensures _ c.read_held-ended.result.at _ _ c.if-end-input.false c.requires c.read_held-ended.ensures

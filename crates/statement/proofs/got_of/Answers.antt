@@ -12,14 +12,10 @@ negative : (z : ℤ) → lt_z z (pos 0) ≡ not (non_neg z)
 negative (pos k) = le-ltb k 0 (omega arith)
 negative (negsuc k) = refl
 
-pub count-requires : goal.count-requires
-count-requires c = tt
-
 pub returns : goal.returns
-returns c = let start = c in
-    let same = to_z-of_z start.ranges.answer in
+returns c = let same = to_z-of_z c.ranges.answer in
     record {
       came = rw same at c.count.ensures.value;
       inside = c.count.ensures.in_bounds.0;
-      fails = rw same (negative start.args.answer);
+      fails = rw same (negative c.args.answer);
     }

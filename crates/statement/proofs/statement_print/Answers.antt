@@ -7,31 +7,17 @@ use Rattle.statement.proofs.Giving.{still_fits}
 use Rattle.statement.proofs.Reaching.{two_texts, turn_less, reached_none, reached_more, reached_stop, reached_end}
 use Rattle.statement.proofs.statement_print.Goals as goal
 
-pub large_buffer-buffer-requires : goal.large_buffer-buffer-requires
-large_buffer-buffer-requires c = tt
-
-pub large_buffer-out-requires : goal.large_buffer-out-requires
-large_buffer-out-requires c = tt
-
-pub start-session-requires : goal.start-session-requires
-start-session-requires c = tt
-
 pub loop-turns-init : goal.loop-turns-init
 loop-turns-init c = (c.large_buffer-buffer.ensures, c.large_buffer-out.ensures, reached_none _ (c.start-session.ensures _ _ _))
 
 pub overflow_sub-turns : goal.overflow_sub-turns
 overflow_sub-turns c = c.loop-turns-test.true
 
-pub read_some-got-requires : goal.read_some-got-requires
-read_some-got-requires c = tt
-
 pub give-given-requires : goal.give-given-requires
 give-given-requires c = two_texts c.loop-turns.invariant.1
 
 pub loop-turns-smaller : goal.loop-turns-smaller
-loop-turns-smaller c = let given = c in
-    let inside = given in
-    turn_less inside.loop-turns-test.true
+loop-turns-smaller c = turn_less c.loop-turns-test.true
 
 pub loop-turns-preserved : goal.loop-turns-preserved
 loop-turns-preserved c =

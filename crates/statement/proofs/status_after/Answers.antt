@@ -20,20 +20,18 @@ returns-then-status-ne-ACCEPTED c = let line = c.args.line.now in
 
 pub returns-then-first_digit-eq48 : goal.returns-then-first_digit-eq48
 unfolding status_after
-returns-then-first_digit-eq48 c = let start = c in
-    let line = start.args.line.now in
+returns-then-first_digit-eq48 c = let line = c.args.line.now in
     rw (
       ne_eqb (get_or line 0 0) 108 (λ e. c.if-byte_at-eq108.false (c.byte_at.ensures ∙ e)),
       eq-eqb (get_or line (number_place line) 0) 48 (sym c.first_digit.ensures ∙ c.if-first_digit-eq48.true),
-      eq-eqb start.args.status 0 c.if-status-ne-ACCEPTED.false,
+      eq-eqb c.args.status 0 c.if-status-ne-ACCEPTED.false,
     )
 
 pub returns : goal.returns
 unfolding status_after
-returns c = let start = c in
-    let line = start.args.line.now in
+returns c = let line = c.args.line.now in
     rw (
       ne_eqb (get_or line 0 0) 108 (λ e. c.if-byte_at-eq108.false (c.byte_at.ensures ∙ e)),
       ne_eqb (get_or line (number_place line) 0) 48 (λ e. c.if-first_digit-eq48.false (c.first_digit.ensures ∙ e)),
-      eq-eqb start.args.status 0 c.if-status-ne-ACCEPTED.false,
+      eq-eqb c.args.status 0 c.if-status-ne-ACCEPTED.false,
     )

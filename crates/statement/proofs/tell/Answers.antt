@@ -35,15 +35,12 @@ pub loop-place-smaller : goal.loop-place-smaller
 loop-place-smaller c = omega arith
 
 pub loop-place-preserved : goal.loop-place-preserved
-loop-place-preserved c = let line = c in
-    let loop = line in
-    let text = loop.args.text.now in (
-      omega (arith, line.line_at-line.ensures.inside, line.line_at-line.ensures.follows),
-      rw c.status_after-status.ensures
-          (sym (status_line loop.loop-place.status line.loop-place-test.true line.line_at-line.ensures) ∙ loop.loop-place.invariant.1),
-    )
+loop-place-preserved c = let text = c.args.text.now in (
+  omega (arith, c.line_at-line.ensures.inside, c.line_at-line.ensures.follows),
+  rw c.status_after-status.ensures
+      (sym (status_line c.loop-place.status c.loop-place-test.true c.line_at-line.ensures) ∙ c.loop-place.invariant.1),
+)
 
 pub returns : goal.returns
-returns c = let loop = c in
-    let text = loop.args.text.now in
-    record { told = λ e. sym (status_none loop.loop-place.status) ∙ rw (drop_of_length-le text c.loop-place-test.false) at loop.loop-place.invariant.1 }
+returns c = let text = c.args.text.now in
+    record { told = λ e. sym (status_none c.loop-place.status) ∙ rw (drop_of_length-le text c.loop-place-test.false) at c.loop-place.invariant.1 }

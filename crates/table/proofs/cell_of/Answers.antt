@@ -10,8 +10,7 @@ returns-then-k-lt28 c = simp (lt-ltb _ _ c.if-k-lt28.true)
 
 pub returns-then-k-lt35 : goal.returns-then-k-lt35
 unfolding cell_at
-returns-then-k-lt35 c = let tests = c in
-    simp (le-ltb _ _ tests.if-k-lt28.false, lt-ltb _ _ tests.if-k-lt35.true, add-zero) c.sum_of.ensures
+returns-then-k-lt35 c = simp (le-ltb _ _ c.if-k-lt28.false, lt-ltb _ _ c.if-k-lt35.true, add-zero) c.sum_of.ensures
 
 pub returns : goal.returns
 unfolding cell_at

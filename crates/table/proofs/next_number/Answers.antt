@@ -13,9 +13,6 @@ bounds-line-place c = omega arith
 pub overflow_add-place : goal.overflow_add-place
 overflow_add-place c = omega arith
 
-pub is_digit-requires : goal.is_digit-requires
-is_digit-requires c = tt
-
 pub with_digit-value-requires : goal.with_digit-value-requires
 with_digit-value-requires c = sym c.is_digit.ensures ∙ c.if-is_digit.true
 
@@ -23,22 +20,16 @@ pub loop-place-smaller-then-is_digit : goal.loop-place-smaller-then-is_digit
 loop-place-smaller-then-is_digit c = omega arith
 
 pub loop-place-preserved-then-is_digit : goal.loop-place-preserved-then-is_digit
-loop-place-preserved-then-is_digit c = let call = c in
-    let turn = call in
-    read_digit turn.loop-place.invariant turn.loop-place-test.true (sym call.is_digit.ensures ∙ c.if-is_digit.true) c.with_digit-value.ensures
+loop-place-preserved-then-is_digit c = read_digit c.loop-place.invariant c.loop-place-test.true (sym c.is_digit.ensures ∙ c.if-is_digit.true) c.with_digit-value.ensures
 
 pub returns-then-inside : goal.returns-then-inside
-returns-then-inside c = let call = c in
-    let turn = call in
-    read_end turn.loop-place.invariant turn.loop-place-test.true (sym call.is_digit.ensures ∙ c.if-is_digit.false) c.if-inside.true
+returns-then-inside c = read_end c.loop-place.invariant c.loop-place-test.true (sym c.is_digit.ensures ∙ c.if-is_digit.false) c.if-inside.true
 
 pub loop-place-smaller : goal.loop-place-smaller
 loop-place-smaller c = omega arith
 
 pub loop-place-preserved : goal.loop-place-preserved
-loop-place-preserved c = let call = c in
-    let turn = call in
-    read_other turn.loop-place.invariant turn.loop-place-test.true (sym call.is_digit.ensures ∙ c.if-is_digit.false) c.if-inside.false
+loop-place-preserved c = read_other c.loop-place.invariant c.loop-place-test.true (sym c.is_digit.ensures ∙ c.if-is_digit.false) c.if-inside.false
 
 pub returns : goal.returns
 returns c = read_all c.loop-place.invariant c.loop-place-test.false

@@ -7,9 +7,6 @@ use Rattle.table.proofs.numbers_of.Goals as goal
 pub loop-count-init : goal.loop-count-init
 loop-count-init c = collect_none _ _ refl
 
-pub next_number-found-requires : goal.next_number-found-requires
-next_number-found-requires c = tt
-
 pub offset_bounds-numbers-count : goal.offset_bounds-numbers-count
 offset_bounds-numbers-count c = omega arith
 

@@ -24,9 +24,8 @@ pub loop-place-smaller : goal.loop-place-smaller
 loop-place-smaller c = omega arith
 
 pub loop-place-preserved : goal.loop-place-preserved
-loop-place-preserved c = let turn = c in
-    let inv = turn.loop-place.invariant in
-    (simp length-set inv.0, omega arith, omega arith, bytes_next _ _ _ _ turn.loop-place-test.true inv.3)
+loop-place-preserved c = let inv = c.loop-place.invariant in
+    (simp length-set inv.0, omega arith, omega arith, bytes_next _ _ _ _ c.loop-place-test.true inv.3)
 
 pub shape_of-out : goal.shape_of-out
 shape_of-out c = c.loop-place.invariant.0

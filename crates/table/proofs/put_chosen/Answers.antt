@@ -21,10 +21,8 @@ pub slice_bounds-put_filled-end-2 : goal.slice_bounds-put_filled-end-2
 slice_bounds-put_filled-end-2 c = reason_inside c.requires.0
 
 pub put_filled-requires : goal.put_filled-requires
-put_filled-requires c = let entry = c in
-    let pre = entry.requires in
-    (text_room_lem pre.0 _ pre.1, reason_short pre.0, pre.2, pre.3, first_few entry.args.text)
+put_filled-requires c = let pre = c.requires in
+    (text_room_lem pre.0 _ pre.1, reason_short pre.0, pre.2, pre.3, first_few c.args.text)
 
 pub returns : goal.returns
-returns c = let call = c in
-    text_wrote call.requires.0 _ _ call.put_filled.ensures
+returns c = text_wrote c.requires.0 _ _ c.put_filled.ensures

@@ -11,8 +11,8 @@ pub returns-then-not-fits : goal.returns-then-not-fits
 returns-then-not-fits c = put_none c.fits.ensures (ap not c.if-not-fits.true)
 
 pub put_text-requires : goal.put_text-requires
-put_text-requires c = let test = c in (
-  room_for _ _ _ test.fits.ensures (ap not test.if-not-fits.false),
+put_text-requires c = (
+  room_for _ _ _ c.fits.ensures (ap not c.if-not-fits.false),
   lit≤ tt,
   lit≤ tt,
   explanation_within _ _ c.explanation_text-text.ensures,
@@ -21,12 +21,8 @@ put_text-requires c = let test = c in (
 )
 
 pub returns : goal.returns
-returns c = let call = c in
-    let row = call.row_of-row.ensures in
-    let text = call.explanation_text-text.ensures in
-    let refusal = call in
-    let kind = refusal in
-    let test = kind in
-    put_wrote test.fits.ensures (ap not test.if-not-fits.false)
-    (explanation_is _ kind.kind_of-kind.ensures kind.numbers_of-numbers.ensures refusal.refusal_of-refusal.ensures row 13 text
-    call.put_text.ensures)
+returns c = let row = c.row_of-row.ensures in
+    let text = c.explanation_text-text.ensures in
+    put_wrote c.fits.ensures (ap not c.if-not-fits.false)
+    (explanation_is _ c.kind_of-kind.ensures c.numbers_of-numbers.ensures c.refusal_of-refusal.ensures row 13 text
+    c.put_text.ensures)

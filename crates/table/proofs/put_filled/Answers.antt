@@ -13,9 +13,8 @@ pub overflow_add-place : goal.overflow_add-place
 overflow_add-place c = omega arith
 
 pub put_mark-end-requires : goal.put_mark-end-requires
-put_mark-end-requires c = let turn = c in
-    let pre = turn.requires in
-    (omega (arith, room_mark turn.loop-place.invariant turn.loop-place-test.true c.if-byte-eq35.true), pre.2, pre.3)
+put_mark-end-requires c = let pre = c.requires in
+    (omega (arith, room_mark c.loop-place.invariant c.loop-place-test.true c.if-byte-eq35.true), pre.2, pre.3)
 
 pub overflow_add-mark : goal.overflow_add-mark
 overflow_add-mark c = omega arith
@@ -24,43 +23,32 @@ pub loop-place-smaller-then-byte-eq35 : goal.loop-place-smaller-then-byte-eq35
 loop-place-smaller-then-byte-eq35 c = omega arith
 
 pub loop-place-preserved-then-byte-eq35 : goal.loop-place-preserved-then-byte-eq35
-loop-place-preserved-then-byte-eq35 c = let call = c in
-    let test = call in
-    let turn = test in
-    let pre = turn.requires in
-    then_mark turn.loop-place.invariant turn.loop-place-test.true test.if-byte-eq35.true call.put_mark-end.ensures (marked_length _ _ _ pre.3) call.put_mark-end.auto.out
+loop-place-preserved-then-byte-eq35 c = let pre = c.requires in
+    then_mark c.loop-place.invariant c.loop-place-test.true c.if-byte-eq35.true c.put_mark-end.ensures (marked_length _ _ _ pre.3) c.put_mark-end.auto.out
 
 pub put_bytes-end-requires : goal.put_bytes-end-requires
-put_bytes-end-requires c = let tests = c in
-    let turn = tests in
-    let pre = turn.requires in
-    omega (arith, pre.1, room_reason turn.loop-place.invariant turn.loop-place-test.true tests.if-byte-eq35.false tests.if-byte-eq126.true)
+put_bytes-end-requires c = let pre = c.requires in
+    omega (arith, pre.1, room_reason c.loop-place.invariant c.loop-place-test.true c.if-byte-eq35.false c.if-byte-eq126.true)
 
 pub loop-place-smaller-then-byte-eq126 : goal.loop-place-smaller-then-byte-eq126
 loop-place-smaller-then-byte-eq126 c = omega arith
 
 pub loop-place-preserved-then-byte-eq126 : goal.loop-place-preserved-then-byte-eq126
-loop-place-preserved-then-byte-eq126 c = let call = c in
-    let tests = call in
-    let turn = tests in
-    let pre = turn.requires in
-    then_reason turn.loop-place.invariant turn.loop-place-test.true tests.if-byte-eq35.false tests.if-byte-eq126.true call.put_bytes-end.ensures pre.1
-    call.put_bytes-end.auto.out
+loop-place-preserved-then-byte-eq126 c = let pre = c.requires in
+    then_reason c.loop-place.invariant c.loop-place-test.true c.if-byte-eq35.false c.if-byte-eq126.true c.put_bytes-end.ensures pre.1
+    c.put_bytes-end.auto.out
 
 pub bounds-out-end : goal.bounds-out-end
-bounds-out-end c = let turn = c in
-    omega (arith, room_byte turn.loop-place.invariant turn.loop-place-test.true c.if-byte-eq35.false c.if-byte-eq126.false)
+bounds-out-end c = omega (arith, room_byte c.loop-place.invariant c.loop-place-test.true c.if-byte-eq35.false c.if-byte-eq126.false)
 
 pub overflow_add-end : goal.overflow_add-end
-overflow_add-end c = let turn = c in
-    omega (arith, room_byte turn.loop-place.invariant turn.loop-place-test.true c.if-byte-eq35.false c.if-byte-eq126.false)
+overflow_add-end c = omega (arith, room_byte c.loop-place.invariant c.loop-place-test.true c.if-byte-eq35.false c.if-byte-eq126.false)
 
 pub loop-place-smaller : goal.loop-place-smaller
 loop-place-smaller c = omega arith
 
 pub loop-place-preserved : goal.loop-place-preserved
-loop-place-preserved c = let turn = c in
-    then_byte turn.loop-place.invariant turn.loop-place-test.true c.if-byte-eq35.false c.if-byte-eq126.false
+loop-place-preserved c = then_byte c.loop-place.invariant c.loop-place-test.true c.if-byte-eq35.false c.if-byte-eq126.false
 
 pub shape_of-out : goal.shape_of-out
 shape_of-out c = c.loop-place.invariant.kept

@@ -9,17 +9,14 @@ use Rattle.table.proofs.put_mark.Goals as goal
 
 pub returns-then-mark-lt7 : goal.returns-then-mark-lt7
 unfolding marked_by
-returns-then-mark-lt7 c = let call = c in
-    simp (lt-ltb _ _ call.if-mark-lt7.true, ← call.plain_value.ensures) (put_there (omega arith) call.put_number.ensures)
+returns-then-mark-lt7 c = simp (lt-ltb _ _ c.if-mark-lt7.true, ← c.plain_value.ensures) (put_there (omega arith) c.put_number.ensures)
 
 pub put_column-requires : goal.put_column-requires
-put_column-requires c = let call = c in
-    let args = call.args in
-    let pre = call.requires in
-    let fits = shows_fit args.numbers.now args.width (args.mark - 7) call.shown_in-shown.ensures pre.2 in
+put_column-requires c = let args = c.args in
+    let pre = c.requires in
+    let fits = shows_fit args.numbers.now args.width (args.mark - 7) c.shown_in-shown.ensures pre.2 in
     (omega arith, omega arith)
 
 pub returns : goal.returns
 unfolding marked_by
-returns c = let call = c in
-    simp (le-ltb _ _ call.if-mark-lt7.false, ← call.shown_in-shown.ensures) call.put_column.ensures
+returns c = simp (le-ltb _ _ c.if-mark-lt7.false, ← c.shown_in-shown.ensures) c.put_column.ensures

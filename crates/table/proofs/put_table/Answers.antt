@@ -11,24 +11,19 @@ pub returns-then-not-fits : goal.returns-then-not-fits
 returns-then-not-fits c = put_none c.fits.ensures (ap not c.if-not-fits.true)
 
 pub put_text-requires : goal.put_text-requires
-put_text-requires c = let width = c.width_of-width.ensures in
-    let test = c in (
-      room_for _ _ _ test.fits.ensures (ap not test.if-not-fits.false),
-      width.least,
-      width.most,
-      table_within _ _ c.table_text-text.ensures,
-      row_within _ _ c.row_of-row.ensures,
-      lit≤ tt,
-    )
+put_text-requires c = let width = c.width_of-width.ensures in (
+  room_for _ _ _ c.fits.ensures (ap not c.if-not-fits.false),
+  width.least,
+  width.most,
+  table_within _ _ c.table_text-text.ensures,
+  row_within _ _ c.row_of-row.ensures,
+  lit≤ tt,
+)
 
 pub returns : goal.returns
-returns c = let call = c in
-    let row = call.row_of-row.ensures in
-    let text = call.table_text-text.ensures in
-    let width = call.width_of-width in
-    let refusal = call in
-    let kind = refusal in
-    let test = kind in
-    put_wrote test.fits.ensures (ap not test.if-not-fits.false)
-    (table_is _ kind.kind_of-kind.ensures kind.numbers_of-numbers.ensures refusal.refusal_of-refusal.ensures row width.ensures.is text
-    call.put_text.ensures)
+returns c = let row = c.row_of-row.ensures in
+    let text = c.table_text-text.ensures in
+    let width = c.width_of-width in
+    put_wrote c.fits.ensures (ap not c.if-not-fits.false)
+    (table_is _ c.kind_of-kind.ensures c.numbers_of-numbers.ensures c.refusal_of-refusal.ensures row width.ensures.is text
+    c.put_text.ensures)

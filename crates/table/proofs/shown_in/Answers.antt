@@ -17,10 +17,8 @@ returns-then-k-eq0 c = simp (le-ltb _ _ c.if-k-lt7.false, le-ltb _ _ c.if-k-lt42
 
 pub returns-then-k-eq1 : goal.returns-then-k-eq1
 unfolding shown_of
-returns-then-k-eq1 c = let call = c in
-    simp (le-ltb _ _ call.if-k-lt7.false, le-ltb _ _ call.if-k-lt42.false, ne_eqb _ _ c.if-k-eq0.false, eq-eqb _ _ c.if-k-eq1.true, ← call.cell_of-cents.ensures)
+returns-then-k-eq1 c = simp (le-ltb _ _ c.if-k-lt7.false, le-ltb _ _ c.if-k-lt42.false, ne_eqb _ _ c.if-k-eq0.false, eq-eqb _ _ c.if-k-eq1.true, ← c.cell_of-cents.ensures)
 
 pub returns : goal.returns
 unfolding shown_of
-returns c = let call = c in
-    simp (le-ltb _ _ call.if-k-lt7.false, le-ltb _ _ call.if-k-lt42.false, ne_eqb _ _ c.if-k-eq0.false, ne_eqb _ _ c.if-k-eq1.false, ← call.cell_of-cents.ensures)
+returns c = simp (le-ltb _ _ c.if-k-lt7.false, le-ltb _ _ c.if-k-lt42.false, ne_eqb _ _ c.if-k-eq0.false, ne_eqb _ _ c.if-k-eq1.false, ← c.cell_of-cents.ensures)

@@ -7,9 +7,6 @@ use Rattle.tariff.specs.Tariff.{nameplates_of, some_below_one}
 use Rattle.tariff.proofs.Nameplates.{held, under_next, under_at}
 use Rattle.tariff.proofs.some_below_one.Goals as goal
 
-pub places_held-held-requires : goal.places_held-held-requires
-places_held-held-requires c = tt
-
 pub loop-place-init : goal.loop-place-init
 loop-place-init c = (omega arith, omega (arith, c.places_held-held.ensures), search rules, refl)
 
@@ -24,7 +21,7 @@ unfolding some_below_one nameplates_of
 returns-then-nameplates-place-lt1 c = let lp = c.loop-place in
     let terms = c.args.terms in
     let (within, most, eight, none) = lp.invariant in
-    let held-is = c.places_held-held.ensures in
+    let held_is = c.places_held-held.ensures in
     sym (under_at 1 terms.nameplates lp.place terms.count (omega arith) (omega arith) c.if-nameplates-place-lt1.true)
 
 pub overflow_add-place : goal.overflow_add-place

@@ -7,9 +7,6 @@ use Rattle.tariff.specs.Tariff.{nameplates_of, total_nameplate}
 use Rattle.tariff.proofs.Nameplates.{held, sum_next}
 use Rattle.tariff.proofs.total_nameplate.Goals as goal
 
-pub places_held-count-requires : goal.places_held-count-requires
-places_held-count-requires c = tt
-
 pub loop-place-init : goal.loop-place-init
 loop-place-init c = (omega arith, omega (arith, c.places_held-count.ensures), search rules, omega arith)
 
@@ -18,9 +15,6 @@ offset_bounds-nameplates-place c = omega arith
 
 pub bounds-nameplates-place : goal.bounds-nameplates-place
 bounds-nameplates-place c = omega arith
-
-pub capped_sum-total-requires : goal.capped_sum-total-requires
-capped_sum-total-requires c = tt
 
 pub overflow_add-place : goal.overflow_add-place
 overflow_add-place c = omega arith
@@ -37,8 +31,7 @@ loop-place-preserved c = let lp = c.loop-place in
 pub returns : goal.returns
 unfolding total_nameplate nameplates_of
 returns c = let lp = c.loop-place in
-    let start = c in
     let (within, most, eight, sum) = lp.invariant in
     let all : lp.place ≡ c.places_held-count.result = omega arith in
-    let same = held start.args.terms.count lp.place start.args.terms.nameplates (omega (arith, c.places_held-count.ensures)) eight in
+    let same = held c.args.terms.count lp.place c.args.terms.nameplates (omega (arith, c.places_held-count.ensures)) eight in
     rw (← same) sum

@@ -11,9 +11,7 @@ pub bounds-text-place : goal.bounds-text-place
 bounds-text-place c = omega arith
 
 pub returns-then-text-place : goal.returns-then-text-place
-returns-then-text-place c = let lp = c in
-    let st = c in
-    sym (lp.loop-place.invariant.1 ∙ omega (arith, place_here st.args.byte lp.loop-place.place st.args.text.now (omega arith) c.if-text-place.true))
+returns-then-text-place c = sym (c.loop-place.invariant.1 ∙ omega (arith, place_here c.args.byte c.loop-place.place c.args.text.now (omega arith) c.if-text-place.true))
 
 pub overflow_add-place : goal.overflow_add-place
 overflow_add-place c = omega arith
@@ -22,9 +20,7 @@ pub loop-place-smaller : goal.loop-place-smaller
 loop-place-smaller c = omega arith
 
 pub loop-place-preserved : goal.loop-place-preserved
-loop-place-preserved c = let lp = c in
-    let st = c in
-    (omega arith, lp.loop-place.invariant.1 ∙ omega (arith, place_next st.args.byte lp.loop-place.place st.args.text.now (omega arith) c.if-text-place.false))
+loop-place-preserved c = (omega arith, c.loop-place.invariant.1 ∙ omega (arith, place_next c.args.byte c.loop-place.place c.args.text.now (omega arith) c.if-text-place.false))
 
 pub returns : goal.returns
 returns c = sym (c.loop-place.invariant.1 ∙ omega (arith, place_end c.args.byte c.loop-place.place c.args.text.now (omega arith)))

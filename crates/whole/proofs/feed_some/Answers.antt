@@ -8,7 +8,5 @@ pub slice_bounds-feed-end : goal.slice_bounds-feed-end
 slice_bounds-feed-end c = simp length-take (omega arith)
 
 pub returns : goal.returns
-returns c = let fed = c in
-    let piece = fed in
-    fed_some (omega arith) c.add.ensures piece.args.input.now piece.least-piece.result
-    piece.least-piece.ensures fed.feed-fed.ensures
+returns c = fed_some (omega arith) c.add.ensures c.args.input.now c.least-piece.result
+    c.least-piece.ensures c.feed-fed.ensures

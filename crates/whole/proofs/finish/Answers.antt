@@ -4,5 +4,4 @@ use Rattle.whole.proofs.Adding.{finished}
 use Rattle.whole.proofs.finish.Goals as goal
 
 pub returns : goal.returns
-returns c = let ended = c in
-    finished (omega arith) c.add.ensures ended.finish-written.ensures
+returns c = finished (omega arith) c.add.ensures c.finish-written.ensures

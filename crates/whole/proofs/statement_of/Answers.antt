@@ -21,56 +21,37 @@ pub slice_bounds-feed_some-end : goal.slice_bounds-feed_some-end
 slice_bounds-feed_some-end c = omega arith
 
 pub overflow_add-taken : goal.overflow_add-taken
-overflow_add-taken c = let fed = c in
-    let inside = fed in
-    let start = inside in
-    let later = so_far_of fed.feed_some-fed.result.session (lent fed.feed_some-fed.new.line fed.feed_some-fed.new.delivered fed.feed_some-fed.new.received) in
-    let g = (going_more {later = later} (omega (arith, start.well_formed)) inside.loop-taken.invariant inside.loop-taken-test.true fed.feed_some-fed.ensures).1 in
-    omega (arith, start.well_formed, g.inside)
+overflow_add-taken c = let later = so_far_of c.feed_some-fed.result.session (lent c.feed_some-fed.new.line c.feed_some-fed.new.delivered c.feed_some-fed.new.received) in
+    let g = (going_more {later = later} (omega (arith, c.well_formed)) c.loop-taken.invariant c.loop-taken-test.true c.feed_some-fed.ensures).1 in
+    omega (arith, c.well_formed, g.inside)
 
 pub shape_of-text-then-is_stopped : goal.shape_of-text-then-is_stopped
-shape_of-text-then-is_stopped c = let fed = c in
-    let inside = fed in
-    let start = inside in
-    let later = so_far_of fed.feed_some-fed.result.session (lent fed.feed_some-fed.new.line fed.feed_some-fed.new.delivered fed.feed_some-fed.new.received) in
-    same_long (going_more {later = later} (omega (arith, start.well_formed)) inside.loop-taken.invariant inside.loop-taken-test.true fed.feed_some-fed.ensures).1
+shape_of-text-then-is_stopped c = let later = so_far_of c.feed_some-fed.result.session (lent c.feed_some-fed.new.line c.feed_some-fed.new.delivered c.feed_some-fed.new.received) in
+    same_long (going_more {later = later} (omega (arith, c.well_formed)) c.loop-taken.invariant c.loop-taken-test.true c.feed_some-fed.ensures).1
 
 pub returns-then-is_stopped : goal.returns-then-is_stopped
-returns-then-is_stopped c = let fed = c in
-    let inside = fed in
-    let start = inside in
-    let later = so_far_of fed.feed_some-fed.result.session (lent fed.feed_some-fed.new.line fed.feed_some-fed.new.delivered fed.feed_some-fed.new.received) in
-    let g = (going_more {later = later} (omega (arith, start.well_formed)) inside.loop-taken.invariant inside.loop-taken-test.true fed.feed_some-fed.ensures).1 in
-    let all = going_stopped g (sym (c.is_stopped.ensures [] fed.feed_some-fed.new.delivered fed.feed_some-fed.new.received) ∙ c.if-is_stopped.true) (omega (arith, fed.feed_some-fed.ensures.adds.end)) in record {
+returns-then-is_stopped c = let later = so_far_of c.feed_some-fed.result.session (lent c.feed_some-fed.new.line c.feed_some-fed.new.delivered c.feed_some-fed.new.received) in
+    let g = (going_more {later = later} (omega (arith, c.well_formed)) c.loop-taken.invariant c.loop-taken-test.true c.feed_some-fed.ensures).1 in
+    let all = going_stopped g (sym (c.is_stopped.ensures [] c.feed_some-fed.new.delivered c.feed_some-fed.new.received) ∙ c.if-is_stopped.true) (omega (arith, c.feed_some-fed.ensures.adds.end)) in record {
       written = all.bytes;
       long = whole_long all;
       unaltered = refl;
     }
 
 pub loop-taken-smaller : goal.loop-taken-smaller
-loop-taken-smaller c = let fed = c in
-    let inside = fed in
-    let start = inside in
-    let later = so_far_of fed.feed_some-fed.result.session (lent fed.feed_some-fed.new.line fed.feed_some-fed.new.delivered fed.feed_some-fed.new.received) in
-    omega (arith, (going_more {later = later} (omega (arith, start.well_formed)) inside.loop-taken.invariant inside.loop-taken-test.true fed.feed_some-fed.ensures).0)
+loop-taken-smaller c = let later = so_far_of c.feed_some-fed.result.session (lent c.feed_some-fed.new.line c.feed_some-fed.new.delivered c.feed_some-fed.new.received) in
+    omega (arith, (going_more {later = later} (omega (arith, c.well_formed)) c.loop-taken.invariant c.loop-taken-test.true c.feed_some-fed.ensures).0)
 
 pub loop-taken-preserved : goal.loop-taken-preserved
-loop-taken-preserved c = let fed = c in
-    let inside = fed in
-    let start = inside in
-    let later = so_far_of fed.feed_some-fed.result.session (lent fed.feed_some-fed.new.line fed.feed_some-fed.new.delivered fed.feed_some-fed.new.received) in
-    (going_more {later = later} (omega (arith, start.well_formed)) inside.loop-taken.invariant inside.loop-taken-test.true fed.feed_some-fed.ensures).1
+loop-taken-preserved c = let later = so_far_of c.feed_some-fed.result.session (lent c.feed_some-fed.new.line c.feed_some-fed.new.delivered c.feed_some-fed.new.received) in
+    (going_more {later = later} (omega (arith, c.well_formed)) c.loop-taken.invariant c.loop-taken-test.true c.feed_some-fed.ensures).1
 
 pub shape_of-text : goal.shape_of-text
-shape_of-text c = let ended = c in
-    let loop = ended in
-    ap length (going_all loop.loop-taken.invariant loop.loop-taken-test.false ended.finish.ensures).bytes ∙ simp length-sets
+shape_of-text c = ap length (going_all c.loop-taken.invariant c.loop-taken-test.false c.finish.ensures).bytes ∙ simp length-sets
 
 pub returns : goal.returns
-returns c = let ended = c in
-    let loop = ended in
-    let all = going_all loop.loop-taken.invariant loop.loop-taken-test.false ended.finish.ensures in record {
-      written = all.bytes;
-      long = whole_long all;
-      unaltered = refl;
-    }
+returns c = let all = going_all c.loop-taken.invariant c.loop-taken-test.false c.finish.ensures in record {
+  written = all.bytes;
+  long = whole_long all;
+  unaltered = refl;
+}

@@ -8,8 +8,7 @@ use Rattle.whole.proofs.Writing.{written_more, all_written}
 use Rattle.whole.proofs.write.Goals as goal
 
 pub returns-then-text-place : goal.returns-then-text-place
-returns-then-text-place c = let st = c in
-    sym (sets-out st.args.text.now st.args.place st.args.bytes.now c.if-text-place.true)
+returns-then-text-place c = sym (sets-out c.args.text.now c.args.place c.args.bytes.now c.if-text-place.true)
 
 pub overflow_sub-text : goal.overflow_sub-text
 overflow_sub-text c = omega arith
@@ -24,9 +23,8 @@ pub overflow_add-text : goal.overflow_add-text
 overflow_add-text c = omega arith
 
 pub bounds-text-place : goal.bounds-text-place
-bounds-text-place c = let st = c in
-    let lp = c.loop-written in
-    omega (arith, ap length lp.invariant.1 ∙ length-sets st.args.text.now st.args.place (take lp.written st.args.bytes.now))
+bounds-text-place c = let lp = c.loop-written in
+    omega (arith, ap length lp.invariant.1 ∙ length-sets c.args.text.now c.args.place (take lp.written c.args.bytes.now))
 
 pub overflow_add-written : goal.overflow_add-written
 overflow_add-written c = omega arith
@@ -35,19 +33,17 @@ pub loop-written-smaller : goal.loop-written-smaller
 loop-written-smaller c = omega arith
 
 pub loop-written-preserved : goal.loop-written-preserved
-loop-written-preserved c = let st = c in
-    let lp = c.loop-written in (
-      omega arith,
-      rw lp.invariant.1 (written_more st.args.text.now st.args.bytes.now st.args.place lp.written (omega arith)),
-    )
+loop-written-preserved c = let lp = c.loop-written in (
+  omega arith,
+  rw lp.invariant.1 (written_more c.args.text.now c.args.bytes.now c.args.place lp.written (omega arith)),
+)
 
 pub shape_of-text : goal.shape_of-text
 shape_of-text c = ap length c.loop-written.invariant.1 ∙ simp length-sets
 
 pub returns : goal.returns
-returns c = let st = c in
-    let lp = c.loop-written in
+returns c = let lp = c.loop-written in
     let all : lp.written ≡ c.least-fits.result = omega arith in
     lp.invariant.1 ∙ rw all
-    (all_written st.args.text.now st.args.bytes.now st.args.place c.least-fits.result (omega arith)
+    (all_written c.args.text.now c.args.bytes.now c.args.place c.least-fits.result (omega arith)
     c.least-fits.ensures)

@@ -6,34 +6,17 @@ use Rattle.progress.proofs.Lines.{reads_some, reads_none, read_by}
 use borrow.Author.Rules.{rules}
 use Rattle.progress.proofs.Progress.read_line.Goals as goal
 
--- src/lib.rt:372:12
-pub has_room-requires : goal.has_room-requires
-has_room-requires c = search rules
-
--- src/lib.rt:373:29
-pub count-requires : goal.count-requires
-count-requires c = search rules
-
 -- src/lib.rt:373:13
 pub expected_line-requires : goal.expected_line-requires
 expected_line-requires c = sym c.has_room.ensures ∙ c.if-has_room.true
 
 -- src/lib.rt:373:13
-pub shape_of-out-then-has_room : goal.shape_of-out-then-has_room
-shape_of-out-then-has_room c = search rules
-
--- src/lib.rt:373:13
 pub returns-then-has_room : goal.returns-then-has_room
-returns-then-has_room c = let st = c in
-    let d = st.args.delivered.now in
-    let e = st.args.received.now in
-    let s = state_of st.args.self d e in
-    reads_some st.args.out.now st.args.at _ s _ _ _ _ _ (sym c.has_room.ensures ∙ c.if-has_room.true)
-    (read_by st.args.out.now st.args.at _ _ _ _ st.args.line.now s _ _ (c.count.ensures d e) c.expected_line.ensures)
-
--- src/lib.rt:362:5
-pub shape_of-out : goal.shape_of-out
-shape_of-out c = search rules
+returns-then-has_room c = let d = c.args.delivered.now in
+    let e = c.args.received.now in
+    let s = state_of c.args.self d e in
+    reads_some c.args.out.now c.args.at _ s _ _ _ _ _ (sym c.has_room.ensures ∙ c.if-has_room.true)
+    (read_by c.args.out.now c.args.at _ _ _ _ c.args.line.now s _ _ (c.count.ensures d e) c.expected_line.ensures)
 
 -- src/lib.rt:362:5
 pub returns : goal.returns

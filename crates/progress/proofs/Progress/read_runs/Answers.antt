@@ -46,56 +46,49 @@ pub next_run-run-requires : goal.next_run-run-requires
 next_run-run-requires c = c.loop-taken.invariant.0
 
 pub returns-then-run-eq0 : goal.returns-then-run-eq0
-returns-then-run-eq0 c = let next = c in
-    let lp = next in
-    let else = lp in
-    let args = else.args in
-    let d = lp.loop-taken.delivered in
-    let e = lp.loop-taken.received in
+returns-then-run-eq0 c = let args = c.args in
+    let d = c.loop-taken.delivered in
+    let e = c.loop-taken.received in
     let input = args.input.now in
-    let taken = lp.loop-taken.taken in
+    let taken = c.loop-taken.taken in
     let rest = take (length input - taken) (drop taken input) in
-    let s = ran_to args.self lp.loop-taken.number (take lp.loop-taken.stored d) (take lp.loop-taken.stored e) in
+    let s = ran_to args.self c.loop-taken.number (take c.loop-taken.stored d) (take c.loop-taken.stored e) in
     let before = state_of args.self args.delivered.now args.received.now in
     ran_to_lem before s (state_of c.with_runs.result d e) _ _ input taken (c.with_runs.ensures d e)
-    (running_none before s _ _ input taken lp.loop-taken.invariant.3
-    (turn_none args.self lp.loop-taken.number lp.loop-taken.stored d e rest else.if-self-ne-RUN_EXPECTED.false lp.loop-taken.invariant.1
-    lp.loop-taken.invariant.2 lp.loop-taken.invariant.0 next.next_run-run.result next.next_run-run.ensures c.if-run-eq0.true))
+    (running_none before s _ _ input taken c.loop-taken.invariant.3
+    (turn_none args.self c.loop-taken.number c.loop-taken.stored d e rest c.if-self-ne-RUN_EXPECTED.false c.loop-taken.invariant.1
+    c.loop-taken.invariant.2 c.loop-taken.invariant.0 c.next_run-run.result c.next_run-run.ensures c.if-run-eq0.true))
 
 pub overflow_add-stored : goal.overflow_add-stored
-overflow_add-stored c = let run = c in
-    let lp = run.loop-taken in
-    let args = run.args in
+overflow_add-stored c = let lp = c.loop-taken in
+    let args = c.args in
     let rest = take (length args.input.now - lp.taken) (drop lp.taken args.input.now) in
-    let next = run.next_run-run in
+    let next = c.next_run-run in
     let some = c.if-run-eq0.false in
     omega (arith, turn_fits lp.stored rest next.result next.ensures some)
 
 pub store-requires : goal.store-requires
-store-requires c = let run = c in
-    let lp = run.loop-taken in
-    let args = run.args in
+store-requires c = let lp = c.loop-taken in
+    let args = c.args in
     let rest = take (length args.input.now - lp.taken) (drop lp.taken args.input.now) in
-    let next = run.next_run-run in record {
+    let next = c.next_run-run in record {
       from_le_to = omega arith;
       to_in_bounds = omega (arith, turn_fits lp.stored rest next.result next.ensures c.if-run-eq0.false, lp.invariant.1);
     }
 
 pub overflow_add-stored-in-loop-taken : goal.overflow_add-stored-in-loop-taken
-overflow_add-stored-in-loop-taken c = let run = c in
-    let lp = run.loop-taken in
-    let args = run.args in
+overflow_add-stored-in-loop-taken c = let lp = c.loop-taken in
+    let args = c.args in
     let rest = take (length args.input.now - lp.taken) (drop lp.taken args.input.now) in
-    let next = run.next_run-run in
+    let next = c.next_run-run in
     let some = c.if-run-eq0.false in
     omega (arith, turn_fits lp.stored rest next.result next.ensures some)
 
 pub store-requires-in-loop-taken : goal.store-requires-in-loop-taken
-store-requires-in-loop-taken c = let run = c in
-    let lp = run.loop-taken in
-    let args = run.args in
+store-requires-in-loop-taken c = let lp = c.loop-taken in
+    let args = c.args in
     let rest = take (length args.input.now - lp.taken) (drop lp.taken args.input.now) in
-    let next = run.next_run-run in
+    let next = c.next_run-run in
     let some = c.if-run-eq0.false in
     let long = c.store-arg-in-loop-taken-1.given.1 in record {
       from_le_to = omega arith;
@@ -103,47 +96,42 @@ store-requires-in-loop-taken c = let run = c in
     }
 
 pub overflow_add-stored-in-loop-taken-2 : goal.overflow_add-stored-in-loop-taken-2
-overflow_add-stored-in-loop-taken-2 c = let run = c in
-    let lp = run.loop-taken in
-    let args = run.args in
+overflow_add-stored-in-loop-taken-2 c = let lp = c.loop-taken in
+    let args = c.args in
     let rest = take (length args.input.now - lp.taken) (drop lp.taken args.input.now) in
-    let next = run.next_run-run in
+    let next = c.next_run-run in
     let some = c.if-run-eq0.false in
     omega (arith, turn_fits lp.stored rest next.result next.ensures some)
 
 pub overflow_add-taken : goal.overflow_add-taken
-overflow_add-taken c = let run = c in
-    let lp = run.loop-taken in
-    let args = run.args in
+overflow_add-taken c = let lp = c.loop-taken in
+    let args = c.args in
     let rest = take (length args.input.now - lp.taken) (drop lp.taken args.input.now) in
-    let next = run.next_run-run in
+    let next = c.next_run-run in
     let input = args.input.now in
     let long = length-drop lp.taken input in
-    let start = run in
     let some = c.if-run-eq0.false in
     let less = length-take (length input - lp.taken) (drop lp.taken input) in
-    omega (arith, start.well_formed.1.0, less, long, turn_within lp.stored rest next.result next.ensures some)
+    omega (arith, c.well_formed.1.0, less, long, turn_within lp.stored rest next.result next.ensures some)
 
 pub loop-taken-smaller : goal.loop-taken-smaller
-loop-taken-smaller c = let run = c in
-    let lp = run.loop-taken in
-    let args = run.args in
+loop-taken-smaller c = let lp = c.loop-taken in
+    let args = c.args in
     let rest = take (length args.input.now - lp.taken) (drop lp.taken args.input.now) in
-    let next = run.next_run-run in
+    let next = c.next_run-run in
     let some = c.if-run-eq0.false in
     let bytes = turn_bytes lp.stored rest next.result next.ensures some in
-    let inside = run.loop-taken-test.true in
+    let inside = c.loop-taken-test.true in
     omega (arith, inside, bytes)
 
 pub loop-taken-preserved : goal.loop-taken-preserved
-loop-taken-preserved c = let run = c in
-    let lp = run.loop-taken in
-    let args = run.args in
+loop-taken-preserved c = let lp = c.loop-taken in
+    let args = c.args in
     let input = args.input.now in
-    let expected = run.if-self-ne-RUN_EXPECTED.false in
+    let expected = c.if-self-ne-RUN_EXPECTED.false in
     let x = args.self in
     let rest = take (length input - lp.taken) (drop lp.taken input) in
-    let next = run.next_run-run in
+    let next = c.next_run-run in
     let some = c.if-run-eq0.false in
     let made = c.store in
     let given = c.store-in-loop-taken in
@@ -167,11 +155,10 @@ loop-taken-preserved c = let run = c in
     )
 
 pub returns : goal.returns
-returns c = let lp = c in
-    let args = lp.args in
-    let d = lp.loop-taken.delivered in
-    let e = lp.loop-taken.received in
-    let s = ran_to args.self lp.loop-taken.number (take lp.loop-taken.stored d) (take lp.loop-taken.stored e) in
+returns c = let args = c.args in
+    let d = c.loop-taken.delivered in
+    let e = c.loop-taken.received in
+    let s = ran_to args.self c.loop-taken.number (take c.loop-taken.stored d) (take c.loop-taken.stored e) in
     let before = state_of args.self args.delivered.now args.received.now in
-    ran_to_lem before s (state_of c.with_runs-2.result d e) _ _ args.input.now lp.loop-taken.taken (c.with_runs-2.ensures d e)
-    (running_all before s _ _ args.input.now lp.loop-taken.taken lp.loop-taken.invariant.3 c.loop-taken-test.false)
+    ran_to_lem before s (state_of c.with_runs-2.result d e) _ _ args.input.now c.loop-taken.taken (c.with_runs-2.ensures d e)
+    (running_all before s _ _ args.input.now c.loop-taken.taken c.loop-taken.invariant.3 c.loop-taken-test.false)

@@ -8,10 +8,6 @@ use Rattle.lines.specs.Statement.{state, month_of}
 use borrow.Author.Rules.{rules}
 use Rattle.progress.proofs.Progress.start.Goals as goal
 
--- src/lib.rt:342:13
-pub fresh-account-requires : goal.fresh-account-requires
-fresh-account-requires c = search rules
-
 -- src/lib.rt:339:5
 pub returns : goal.returns
 returns c = λ d e. ap (λ (a : Account). state 0 0 (replicate opening_length 0) a (month_of 0 0 [] [])) c.fresh-account.ensures

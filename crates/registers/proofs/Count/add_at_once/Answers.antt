@@ -4,18 +4,14 @@ use Rattle.registers.proofs.Counting.{split_sum, neither_above}
 use Rattle.registers.proofs.Count.add_at_once.Goals as goal
 
 pub returns : goal.returns
-returns c = let discount = c in
-    let offpeak = discount in
-    let onpeak = offpeak in
-    let critical = onpeak in
-    let sum = critical.pair_sum-sum.ensures in
-    let st = critical.args in
+returns c = let sum = c.pair_sum-sum.ensures in
+    let st = c.args in
     record {
-      critical = split_sum st.period 0 st.self.critical st.reading st.next (rw sum at critical.in_period.ensures.value);
-      onpeak = split_sum st.period 1 st.self.onpeak st.reading st.next (rw sum at onpeak.in_period-2.ensures.value);
-      offpeak = split_sum st.period 2 st.self.offpeak st.reading st.next (rw sum at offpeak.in_period-3.ensures.value);
-      discount = split_sum st.period 3 st.self.discount st.reading st.next (rw sum at discount.in_period-4.ensures.value);
+      critical = split_sum st.period 0 st.self.critical st.reading st.next (rw sum at c.in_period.ensures.value);
+      onpeak = split_sum st.period 1 st.self.onpeak st.reading st.next (rw sum at c.in_period-2.ensures.value);
+      offpeak = split_sum st.period 2 st.self.offpeak st.reading st.next (rw sum at c.in_period-3.ensures.value);
+      discount = split_sum st.period 3 st.self.discount st.reading st.next (rw sum at c.in_period-4.ensures.value);
       largest = rw (← c.counting_sum.ensures) c.larger-largest.ensures;
-      above = neither_above _ _ _ critical.requires.next_bound;
+      above = neither_above _ _ _ c.requires.next_bound;
       last = refl;
     }

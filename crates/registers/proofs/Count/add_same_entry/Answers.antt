@@ -6,28 +6,26 @@ use Rattle.registers.proofs.Counting.{neither_above}
 use Rattle.registers.proofs.Count.add_same_entry.Goals as goal
 
 pub returns-then-entry-eq-OFF_PEAK : goal.returns-then-entry-eq-OFF_PEAK
-returns-then-entry-eq-OFF_PEAK c = let st = c in
-    rw (c.if-entry-eq-OFF_PEAK.true, period_stays st.args.day.critical 2 (omega arith))
+returns-then-entry-eq-OFF_PEAK c = rw (c.if-entry-eq-OFF_PEAK.true, period_stays c.args.day.critical 2 (omega arith))
     (record {
       critical = omega arith;
       onpeak = omega arith;
       offpeak = omega arith;
       discount = omega arith;
       largest = omega arith;
-      above = neither_above _ _ _ st.requires.next_bound;
+      above = neither_above _ _ _ c.requires.next_bound;
       last = refl;
     })
 
 pub returns-then-entry-eq-DISCOUNT : goal.returns-then-entry-eq-DISCOUNT
-returns-then-entry-eq-DISCOUNT c = let st = c in
-    rw (c.if-entry-eq-DISCOUNT.true, period_stays st.args.day.critical 3 (omega arith))
+returns-then-entry-eq-DISCOUNT c = rw (c.if-entry-eq-DISCOUNT.true, period_stays c.args.day.critical 3 (omega arith))
     (record {
       critical = omega arith;
       onpeak = omega arith;
       offpeak = omega arith;
       discount = omega arith;
       largest = omega arith;
-      above = neither_above _ _ _ st.requires.next_bound;
+      above = neither_above _ _ _ c.requires.next_bound;
       last = refl;
     })
 

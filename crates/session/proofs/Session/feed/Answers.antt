@@ -28,33 +28,24 @@ pub slice_bounds-take_lines-end : goal.slice_bounds-take_lines-end
 slice_bounds-take_lines-end c = omega arith
 
 pub take_lines-fed-requires : goal.take_lines-fed-requires
-take_lines-fed-requires c = let else = c in
-    room_yes _ _ _ else.has_room.ensures (ap not else.if-not-has_room.false)
+take_lines-fed-requires c = room_yes _ _ _ c.has_room.ensures (ap not c.if-not-has_room.false)
 
 pub overflow_add-taken : goal.overflow_add-taken
-overflow_add-taken c = let made = c in
-    let inside = made in
-    let start = inside in
-    let lines = made.take_lines-fed in
-    let input = start.args.input.now in
-    let more = more_taken input inside.loop-taken.taken lines.result.taken inside.loop-taken-test.true lines.ensures in
-    omega (arith, start.well_formed.1.1.1.1.0.0, more)
+overflow_add-taken c = let lines = c.take_lines-fed in
+    let input = c.args.input.now in
+    let more = more_taken input c.loop-taken.taken lines.result.taken c.loop-taken-test.true lines.ensures in
+    omega (arith, c.well_formed.1.1.1.1.0.0, more)
 
 pub loop-taken-smaller : goal.loop-taken-smaller
-loop-taken-smaller c = let made = c in
-    let inside = made in
-    let input = inside.args.input.now in
-    let lines = made.take_lines-fed in
-    omega (arith, more_taken input inside.loop-taken.taken lines.result.taken inside.loop-taken-test.true lines.ensures)
+loop-taken-smaller c = let input = c.args.input.now in
+    let lines = c.take_lines-fed in
+    omega (arith, more_taken input c.loop-taken.taken lines.result.taken c.loop-taken-test.true lines.ensures)
 
 pub loop-taken-preserved : goal.loop-taken-preserved
-loop-taken-preserved c = let made = c in
-    let else = made in
-    let inside = else in
-    let lines = made.take_lines-fed in
+loop-taken-preserved c = let lines = c.take_lines-fed in
     going_more {later = so_far_of lines.result.session (lent lines.new.line lines.new.delivered lines.new.received)}
-    inside.loop-taken.invariant inside.loop-taken-test.true
-    (room_yes _ _ _ else.has_room.ensures (ap not else.if-not-has_room.false)) lines.ensures
+    c.loop-taken.invariant c.loop-taken-test.true
+    (room_yes _ _ _ c.has_room.ensures (ap not c.if-not-has_room.false)) lines.ensures
 
 pub shape_of-out : goal.shape_of-out
 shape_of-out c = same_long c.loop-taken.invariant

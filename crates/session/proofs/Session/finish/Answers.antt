@@ -11,25 +11,16 @@ pub returns-then-out-lt-LEAST_ROOM : goal.returns-then-out-lt-LEAST_ROOM
 returns-then-out-lt-LEAST_ROOM c = finish_none _ _ _ c.if-out-lt-LEAST_ROOM.true
 
 pub returns-then-held-eq0 : goal.returns-then-held-eq0
-returns-then-held-eq0 c = let put = c in
-    let then = put in
-    let least = then in
-    let else = least in
-    let args = else.args in
+returns-then-held-eq0 c = let args = c.args in
     let x = args.self.progress in
     let d = args.delivered.now in
     let e = args.received.now in
-    finish_whole args.self (lent args.line.now d e) args.out.now put.finish.new.out least.least-held.result put.finish.result
-    least.least-held.ensures then.if-held-eq0.true else.if-out-lt-LEAST_ROOM.false (readings_same (state_of x d e) x.stored d e refl refl) put.finish.ensures.text
+    finish_whole args.self (lent args.line.now d e) args.out.now c.finish.new.out c.least-held.result c.finish.result
+    c.least-held.ensures c.if-held-eq0.true c.if-out-lt-LEAST_ROOM.false (readings_same (state_of x d e) x.stored d e refl refl) c.finish.ensures.text
 
 pub returns : goal.returns
-returns c = let put = c in
-    let read = put in
-    let else = read in
-    let least = else in
-    let long = least in
-    let args = long.args in
+returns c = let args = c.args in
     finish_line args.self (lent args.line.now args.delivered.now args.received.now) args.out.now
-    read.read_held-ended.new.out put.finish-2.new.out least.least-held.result read.read_held-ended.result.at
-    put.finish-2.result _ _ (omega (arith, read.read_held-arg-1.given))
-    least.least-held.ensures else.if-held-eq0.false long.if-out-lt-LEAST_ROOM.false read.read_held-ended.ensures put.finish-2.ensures.text
+    c.read_held-ended.new.out c.finish-2.new.out c.least-held.result c.read_held-ended.result.at
+    c.finish-2.result _ _ (omega (arith, c.read_held-arg-1.given))
+    c.least-held.ensures c.if-held-eq0.false c.if-out-lt-LEAST_ROOM.false c.read_held-ended.ensures c.finish-2.ensures.text
