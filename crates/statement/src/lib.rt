@@ -2,7 +2,7 @@
 // command line names, messages and the exit status are left to a program in C above it.
 #![tactic(auto)]
 
-ghost use Rattle.std.specs.Prelude.{◌≡◌, true, ◌≤◌, length, get_or, take};
+ghost use Rattle.std.specs.Prelude.{◌≡◌, true, ◌-◌, ◌^◌, ◌≤◌, min, pos, negsuc, length, get_or, take, MatchResult};
 ghost use Rattle.lines.specs.Feeding.{ending};
 ghost use Rattle.session.specs.Sessions.{lent, so_far_of};
 ghost use Rattle.statement.specs.Giving.{Answers, LineAt, Tells, Gives};
@@ -82,8 +82,10 @@ fn got_of(answer: isize, buffer: &[u8]) -> Got
     }
 }
 
-// What a read of the kit's library answered, as `read` of C has it.
-fn answer_of(got: std::io::Result<usize>) -> isize {
+// What a read of the kit's library answered, as `read` of C has it: how many bytes came, or -1.
+fn answer_of(got: std::io::Result<usize>) -> isize
+    ensures { MatchResult got (λ bytes. result ≡ pos (min bytes (2 ^ 63 - 1))) (λ error. result ≡ negsuc 0) }
+{
     match got {
         Ok(bytes) => {
             if bytes > isize::MAX as usize {
