@@ -9,9 +9,10 @@ import re
 from source import Unreadable, crates, declared, enter, finish, module_of, source
 
 FOLDERS = ("crates", "examples", "include", "harness", "program", ".ci")
-MADE = re.compile(r"\.git|target|harness/(?:\w+/)?target|(?:\.ci|harness/use)/__pycache__")  # by tools, and no part of the repository
+MADE = re.compile(r"\.git|target|crates/\w+/out|harness/(?:\w+/)?target|(?:\.ci|harness/use)/__pycache__")  # by tools, and no part of the repository
 FILES = re.compile(r"src/(?:\w+/)*\w+\.rt|(?:specs|proofs)/(?:[\w+]+/)*\w+\.antt|must-fail/\w+\.edit")
-RUN = re.compile(r"stdin|stdout|args|data/.+")
+RUN = re.compile(r"stdin|stdout|args|status|data/.+")
+OF_FUNCTION = ("Invariants", "Answers", "Proof")
 
 
 def walk(folder):
@@ -42,13 +43,13 @@ def faults_of_crates():
 
 
 def roots(functions, there):
-    """The files of antt that need no `mod` line: the two Lib, the proof of each function or cycle of calls (+even+odd), and the modules above it."""
+    """The files of antt that need no `mod` line: the two Lib, those of each function or cycle of calls (+even+odd), and the modules above them."""
     found = {"specs/Lib", "proofs/Lib"}
     for path in functions:
-        found |= {f"proofs/{path}/Proof"} | {f"proofs/{path[:slash.start()]}" for slash in re.finditer("/", path)}
-    for module, cycle in re.findall(r"^proofs/((?:\w+/)*)((?:\+\w+)+)/Proof\.antt$", "\n".join(there), re.M):
+        found |= {f"proofs/{path}/{name}" for name in OF_FUNCTION} | {f"proofs/{path[:slash.start()]}" for slash in re.finditer("/", path)}
+    for module, cycle in re.findall(r"^proofs/((?:\w+/)*)((?:\+\w+)+)/\w+\.antt$", "\n".join(there), re.M):
         if all(f"{module}{name}" in functions for name in cycle[1:].split("+")):
-            found.add(f"proofs/{module}{cycle}/Proof")
+            found |= {f"proofs/{module}{cycle}/{name}" for name in OF_FUNCTION}
     return {root for root in found if f"{root}.antt" in there}
 
 

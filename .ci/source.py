@@ -121,7 +121,7 @@ def clause(text, keyword):
             return keyword.group(), after_antt(text, token.end, "}")
         if keyword.group() == "ghost" and token.text == "use":
             return "word", after_antt(text, token.end, ";")
-        if token.kind != "word":
+        if token.kind != "word" and token.text not in ("*", ":"):  # ensures* { .. }, ghost name: { .. }
             break
     raise Unreadable(f"{place(text, keyword.start())}: `{keyword.group()}` without braces")
 
@@ -183,6 +183,9 @@ class Reader:
 
     def item(self, path):
         start, public = self.now().start, False
+        if self.now().text == "#" and self.tokens[self.at + 1].text == "!":  # of the whole file
+            self.until("[")
+            return self.group()
         while self.now().text == "#":
             self.until("[")
             before = self.at
@@ -327,9 +330,15 @@ def declared(path):
 
 
 def crates():
-    """The crates of crates.txt, as they stand there."""
+    """The crates of crates.txt, as they stand there: `NAME: DEP ..`, or `NAME staticlib: DEP ..`."""
+    return [name for name, _ in uses()]
+
+
+def uses():
+    """The crates of crates.txt, each with those that it uses."""
     lines = [line.partition("#")[0] for line in read("crates.txt").splitlines()]
-    return [line.partition(":")[0].strip() for line in lines if line.strip()]
+    parts = [line.partition(":") for line in lines if line.strip()]
+    return [((name.split() or [""])[0], used.split()) for name, _, used in parts]
 
 
 def enter():

@@ -11,8 +11,8 @@ from refused import edits, wrong_programs
 from source import ANTT, declared, enter, finish, read, without_comments
 
 LINE = re.compile(r"^(\w+) (proofs/\S+\.antt) (\S+) : (.+)$")
-DECLARES = re.compile(r"^(?:(?:unfoldable|abbrev|axiom|pub|record|data) )*(\S+)")
-USE = re.compile(r"^use (\S+?)(?:\.\{(.*)\}|(?: as (\S+))?)$")
+DECLARES = re.compile(r"^(?:(?:unfoldable|abbrev|opaque|axiom|pub|record|data) )*(\S+)")
+USE = re.compile(r"^(?:(?:pub|unfoldable) )*use (\S+?)(?:\.\{(.*)\}|(?: as (\S+))?)$")
 BUILT_IN = {"λ", "∀", "Type"}
 PARAGRAPH = "The theorems about the definitions alone are"
 
@@ -45,7 +45,7 @@ class File:
                     self.imports[own or first] = (use.group(1), first)
             elif use:
                 self.whole[use.group(3) or use.group(1)] = use.group(1)
-            elif not part.startswith(("mod ", "pub mod ", "infix", "use ")):
+            elif not re.match(r"infix|(?:(?:pub|unfoldable) )*(?:mod|use) ", part):
                 name = name if part.startswith("unfolding") else DECLARES.match(part).group(1)
                 self.says.setdefault(name, []).append(part)
 
@@ -62,7 +62,7 @@ def faults_of_names(file, statement):
     """The names of a statement that are not bound in it, and not imported under their own names from files of definitions or from the kit."""
     plain = re.sub(r"\.[^\s(){}.;,@\"«»]+", "", statement)  # without the fields of records
     bound = {word for names in re.findall(r"[({]([^(){}:]+) :|λ ([^.]+)\.", plain) for word in " ".join(names).split()}
-    operators = {part: name for name in file.imports for part in name.split("_") if part}
+    operators = {part: name for name in file.imports for part in name.split("◌") if part}
     faults = []
     for word in sorted(set(words(plain)) - bound - BUILT_IN):
         module, first = file.imports.get(operators.get(word), ("", ""))
@@ -93,7 +93,7 @@ def supports(crate, file, name):
     """A theorem and the laws of its crate that its proof cites, and theirs: places and facts, as edits name them."""
     folder = f"crates/{crate}/proofs/"
     files = {path[len(folder) : -len(".antt")]: File(path) for path in glob.glob(f"{folder}**/*.antt", recursive=True)}
-    prefix, found, left = f"Rattle·{crate}·proofs.proofs.", set(), [(file, name)]
+    prefix, found, left = f"Rattle.{crate}.proofs.", set(), [(file, name)]
     while left:
         one = left.pop()
         if one not in found and one[0] in files and one[1] in files[one[0]].says:
