@@ -31,7 +31,6 @@ from concurrent.futures import ThreadPoolExecutor
 from source import Unreadable, crates, enter, files, finish, read, source, uses
 
 HEAD = re.compile(r"^# (\w+), refused at ([\w:]+): ([\w'-]+)$")
-CACHE = os.path.join(os.environ.get("XDG_CACHE_HOME") or os.path.expanduser("~/.cache"), "kozempil", "refused")
 PARTS = ("src", "specs", "proofs")
 # What is kept of a log: each error, each function, each goal that is open, and the names that a proof could cite.
 TOLD = re.compile(r"(?:\./)?(?:src|specs|proofs)/\S+:\d+:\d+: error|error|fn |note: src/|note: `search` has not tried|help: `Goals` has|  the fields that can|logic=|status=")
@@ -126,9 +125,13 @@ def sum_of_text(crate):
     return found.hexdigest()
 
 
+def cache():
+    return os.path.join(os.environ.get("XDG_CACHE_HOME") or os.path.expanduser("~/.cache"), "kozempil", "refused")
+
+
 def place_in_cache(crate, replacements):
     how = [TOLD.pattern, ERROR.pattern, CONDITION, *map(inspect.getsource, (check, checked, renamed, conditions))]
-    return os.path.join(CACHE, hashlib.sha256(repr((sum_of_text(crate), replacements, how)).encode()).hexdigest())
+    return os.path.join(cache(), hashlib.sha256(repr((sum_of_text(crate), replacements, how)).encode()).hexdigest())
 
 
 def kept(crate, replacements):
@@ -140,9 +143,9 @@ def kept(crate, replacements):
 def keep(crate, replacements, log):
     """Keeps a log, but not of a check that told nothing."""
     if re.search(r"^logic=", log, re.M):
-        os.makedirs(CACHE, exist_ok=True)
+        os.makedirs(cache(), exist_ok=True)
         path = place_in_cache(crate, replacements)
-        with tempfile.NamedTemporaryFile("w", dir=CACHE, delete=False, encoding="utf-8") as file:
+        with tempfile.NamedTemporaryFile("w", dir=cache(), delete=False, encoding="utf-8") as file:
             file.write(log)
         os.replace(file.name, path)
     return log

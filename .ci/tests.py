@@ -1,5 +1,5 @@
 """Tests of the gate's own scripts, on small repositories in a temporary folder: the good one passes, and each wrong one fails with the message
-that says why. The logs are cut down from those that the checker writes. It runs in seconds.
+that says why. In the place of `rt` stands a program whose logs are cut down from those that it writes. It runs in seconds.
 """
 import contextlib
 import io
@@ -21,7 +21,7 @@ import theorems
 
 SCRIPTS = {"layout": layout, "contracts": contracts, "theorems": theorems, "refused": refused}
 HERE = os.path.dirname(os.path.abspath(__file__))
-ENSURES = "ensures { λ r. ⌜ r ≡ x ⌝ }"
+ENSURES = "ensures { result ≡ x }"
 
 # Public functions named f, with their clauses in the place of the @, in every shape of head.
 SHAPES = {
@@ -31,15 +31,17 @@ SHAPES = {
     "no blanks": "pub fn f(x:u32)->u32 @{x}\n",
     "parameters on many lines": "pub fn f(\n    x: u32,\n    y: u32,\n) -> u32\n    @\n{\n    x\n}\n",
     "keywords on many lines": "pub\nfn\nf(x: u32) -> u32 @\n{ x }\n",
-    "exported to C": '#[no_mangle]\npub extern "C" fn f(x: u32) -> u32\n    @\n{\n    x\n}\n',
-    "exported, not pub": '#[no_mangle] extern "C" fn f(x: u32) -> u32 @ { x }\n',
+    "exported to C": '#[unsafe(no_mangle)]\npub extern "C" fn f(x: u32) -> u32\n    @\n{\n    x\n}\n',
+    "exported, not pub": '#[unsafe(no_mangle)] extern "C" fn f(x: u32) -> u32 @ { x }\n',
+    "after what is said of the file": "#![tactic(auto)]\npub fn f(x: u32) -> u32 @ { x }\n",
+    "with lemmas for its search": "#[tactic(auto, using(a.b))]\npub fn f(x: u32) -> u32 @ { x }\n",
     "const fn": "pub const fn f(x: u32) -> u32 @ { x }\n",
     "attributes": "#[a] #[b(c)]\n#[d]\npub fn f(x: u32) -> u32 @ { x }\n",
     "lifetimes": "pub fn f<'a, 'b>(x: &'a [u8], y: &'b mut [u8]) -> &'a [u8] @ { x }\n",
     "braces in the type": "pub fn f(x: u32) -> [u8; { 3 }] @ { [0; { 3 }] }\n",
     "where": "pub fn f(x: u32) -> u32 where @ { x }\n",
-    "line comment in the head": "pub fn f(x: u32) -> u32 // ensures { λ r. ⌜ r ≡ x ⌝ }\n    @\n{ x }\n",
-    "comments in comments": "pub fn f(x: u32) -> u32 /* a /* b */ ensures { λ r. ⌜ r ≡ x ⌝ } */ @ { x }\n",
+    "line comment in the head": "pub fn f(x: u32) -> u32 // ensures { result ≡ x }\n    @\n{ x }\n",
+    "comments in comments": "pub fn f(x: u32) -> u32 /* a /* b */ ensures { result ≡ x } */ @ { x }\n",
     "comment before": "/* { */ // }\npub fn f(x: u32) -> u32 @ { x }\n",
     "literals in the body": "pub fn f(x: u32) -> u32 @ { g(b\"}/*\\\"\", b'{', b'\\'', '\"') }\n",
     "a raw literal in the body": "pub fn f(x: u32) -> u32 @ { g(br\"\\\", b\"{\") }\n",
@@ -56,65 +58,86 @@ BLOCKS = {
 # What gives a contract, in every shape of a clause.
 CLAUSES = {
     "plain": ENSURES,
-    "named": "ensures bounded { λ r. ⌜ r ≡ x ⌝ }",
-    "braces within": "ensures { λ r. ⌜ r ≡ g {A = ℕ} (record { a = { x } }) ⌝ }",
-    "two on one line": "ensures one { λ r. ⌜ r ≡ x ⌝ } ensures two { λ r. ⌜ r ≡ x ⌝ }",
-    "antt's comments": "ensures { -- }\n λ r{- } {- { -} -}. ⌜ r ≡ x ⌝ }",
-    "a name with dashes": "ensures { λ r--. ⌜ r-- ≡ x ⌝ }",
-    "a text": 'ensures { λ r. ⌜ r ≡ g "}\\"" ⌝ }',
-    "code in brackets": "ensures { λ r. do ⌜ r ≡ (← ⟦if x == 1 { b'}' } else {-1}⟧ .entry) ⌝ }",
-    "comment before the name": "ensures /* } */ named // {\n { λ r. ⌜ r ≡ x ⌝ }",
+    "named": "ensures bounded { result ≡ x }",
+    "starred": "ensures* { ⌜ result ≡ x ⌝ }",
+    "starred and named": "ensures* bounded { ⌜ result ≡ x ⌝ }",
+    "braces within": "ensures { result ≡ g {A = ℕ} (record { a = { x } }) }",
+    "two on one line": "ensures one { result ≡ x } ensures two { result ≡ x }",
+    "antt's comments": "ensures { -- }\n {- } {- { -} -} result ≡ x }",
+    "a name with dashes": "ensures { λ r--. r-- ≡ x }",
+    "a text": 'ensures { result ≡ g "}\\"" }',
+    "code in brackets": "ensures { λ r. do ⌜ r ≡ (← ⟦if x == 1 { b'}' } else {-1}⟧.old) ⌝ }",
+    "comment before the name": "ensures /* } */ named // {\n { result ≡ x }",
 }
 AFTER = f"\npub fn after(x: u32) -> u32\n    {ENSURES}\n{{\n    x\n}}\n"
 
 GOOD = {
-    "crates.txt": "# NAME: DEP DEP ..\nsums:\nrun: sums io\n",
+    "crates.txt": "# NAME: DEP DEP ..\nsums staticlib: std\nrun: sums io\n",
     "README.md": "# R\n\nThe theorems about the definitions alone are `adds : Adds` in `crates/sums/proofs/Laws.antt` and `same` in\n"
     "`crates/sums/proofs`. `Other` is no theorem.\n",
     ".ci/theorems.txt": "# CRATE FILE NAME : STATEMENT\nsums proofs/Laws.antt adds : Adds\n"
-    "sums proofs/Laws.antt same : (n : ℕ) → sumOf n .all ≡ n\n",
-    "crates/sums/src/lib.rt": "ghost use mathlib.Core.Path.{_≡_};\nmod more;\nconst ONE: u32 = 1;\nconst TWO: u32 = ONE + 1;\n\n"
+    "sums proofs/Laws.antt same : (n : ℕ) → (sum_of n).all ≡ n\n",
+    "crates/sums/src/lib.rt": "// Sums.\n#![tactic(auto)]\n\nghost use Rattle.std.specs.Prelude.{◌≡◌};\nmod more;\nconst ONE: u32 = 1;\nconst TWO: u32 = ONE + 1;\n\n"
     f"fn helper(x: u32) -> u32 {{\n    x + 0\n}}\n\npub fn double(x: u32) -> u32\n    {ENSURES}\n{{\n    helper(x) * TWO\n}}\n\n"
-    f"pub fn plain(x: u32) -> u32 {ENSURES} {{\n    x + 7\n}}\n",
+    f"pub fn plain(x: u32) -> u32 {ENSURES} {{\n    (x + 7) * 1\n}}\n",
     "crates/sums/src/more.rt": f"pub struct S {{ x: u32 }}\nimpl S {{\n    pub fn get(self) -> u32 {ENSURES} {{ self.x }}\n}}\n",
     "crates/sums/specs/Lib.antt": "pub mod Sums\n",
-    "crates/sums/specs/Sums.antt": "pub sumOf : ℕ → ℕ\nsumOf n = n\n",
+    "crates/sums/specs/Sums.antt": "pub sum_of : ℕ → ℕ\nsum_of n = n\n",
     "crates/sums/proofs/Lib.antt": "-- mod Gone\npub mod Laws\nmod Steps\n",
-    "crates/sums/proofs/Laws.antt": "use Prim.Native.Nat.{ℕ, _+_}\nuse mathlib.Core.Path.{_≡_, refl}\nuse Rattle·sums·specs.specs.Sums.{Adds, sumOf}\n"
-    "use Rattle·sums·proofs.proofs.Steps.{step as stepping}\n\n-- Why.\npub adds : Adds\nunfolding sumOf\nadds = record { a = refl }\n\n"
-    "pub same : (n : ℕ)\n    → sumOf n .all ≡ n\nsame zero = refl\nsame (suc n) =\n    stepping n\n",
+    "crates/sums/proofs/Laws.antt": "use Prim.Native.Nat.{ℕ, ◌+◌}\nuse mathlib.Core.Path.{◌≡◌, refl}\nuse Rattle.sums.specs.Sums.{Adds, sum_of}\n"
+    "use Rattle.sums.proofs.Steps.{step as stepping}\n\n-- Why.\npub adds : Adds\nunfolding sum_of\nadds = record { a = refl }\n\n"
+    "pub same : (n : ℕ)\n    → (sum_of n).all ≡ n\nsame zero = refl\nsame (suc n) =\n    stepping n\n",
     "crates/sums/proofs/Steps.antt": "pub step : ℕ\nstep = 1\n",
-    "crates/sums/proofs/double/Proof.antt": "pub double-spec : ℕ\ndouble-spec = 1\n",
+    "crates/sums/proofs/double/Answers.antt": "use Rattle.sums.proofs.double.Goals as goal\n\npub returns : goal.returns\nreturns c = cc c.helper.ensures\n",
+    "crates/sums/proofs/double/Invariants.antt": "",
     "crates/sums/must-fail/wrong_code.edit": "# helped, refused at helper: returns\nfile: src/lib.rt\nold: x + 0\nnew: x + 1\n\n"
     "# eight, refused at plain: returns\nfile: src/lib.rt\nold: x + 7\nnew: x + 8\n\n"
-    "# got, refused at more::S::get: returns\nfile: src/more.rt\nold: self.x\nnew: 1\n",
+    "# got, refused at more::S::get: returns\nfile: src/more.rt\nold: self.x\nnew: self.x + 1\n",
     "crates/sums/must-fail/thrice.edit": "# thrice, refused at double: returns\nfile: src/lib.rt\nold: ONE + 1\nnew: ONE + 2\n",
-    "crates/sums/must-fail/definition.edit": "# definition, refused at Laws: adds\nfile: specs/Sums.antt\nold: sumOf n = n\nnew: sumOf n = 0\n",
-    "crates/sums/must-fail/stepped.edit": "# stepped, refused at Steps: step\nfile: specs/Sums.antt\nold: ℕ → ℕ\nnew: ℕ\n",
+    "crates/sums/must-fail/definition.edit": "# definition, refused at Laws: adds\nfile: specs/Sums.antt\nold: sum_of n = n\nnew: sum_of n = 0\n",
+    "crates/sums/must-fail/stepped.edit": "# stepped, refused at Steps: step\nfile: specs/Sums.antt\nold: ℕ → ℕ\nnew: ℕ → ℕ → ℕ\n",
     "crates/sums/must-fail/contract.edit": "# contract, refused at plain: returns\nfile: src/lib.rt\nold: fn plain(x: u32)\nnew: fn plain(y: u32)\n",
-    "crates/sums/must-fail/got_two.edit": "# got_two, refused at more::S::get: returns\nfile: src/more.rt\nold: self.x\nnew: 2\n",
+    "crates/sums/must-fail/got_two.edit": "# got_two, refused at more::S::get: returns\nfile: src/more.rt\nold: self.x\nnew: self.x + 2\n",
     "crates/run/src/main.rt": "fn main() {}\n",
     "crates/run/stdin": "",
     "crates/run/stdout": "",
+    "crates/run/status": "",
     "crates/run/data/a": "",
+    "crates/run/out/made.rt": "",
     "examples/a.in": "",
     "harness/target/made.rt": "",
-    "target/log/sums.out": "fn sums::helper: proved\nfn sums::double: proved\nfn sums::plain: proved\nfn sums::more::S::get: proved\n",
-    "target/log/run.out": "fn run::main: proved\n",
+    "logs/sums/log": "fn sums::helper: proved\nfn sums::double: proved\nfn sums::plain: proved\nfn sums::more::S::get: proved\nlogic=proved\n",
+    "logs/run/log": "fn run::main: proved\nlogic=proved\n",
 }
-FAILS = {  # what the log of each edit has, after the folder of its copy of the crate
-    "wrong_code": [("helper/Proof", "returns", ""), ("plain/Proof", "returns", ""), ("more/S/get/Proof", "returns", "")],
-    "thrice": [("+double/Proof", "returns", "")],
+FAILS = {  # the errors that the log of each edit has
+    "wrong_code": [("helper/Answers", "returns", ""), ("plain/Answers", "returns", ""), ("more/S/get/Answers", "returns", "")],
+    "thrice": [("+double/Invariants", "returns", "")],
     "definition": [("Laws", "adds", ""), ("Laws", "same", f"`adds` {refused.FOLLOWS}")],
     "stepped": [("Steps", "step", "")],
-    "contract": [("plain/Proof", "returns", "")],
+    "contract": [("plain/Answers", "returns", "")],
 }
-SEARCHED = "fn sums::more::S::get: no proof: expected `get-spec` in /r/x; `search` does not close `enum-told`, `returns`\nlogic=not-proved\n"
+SEARCHED = "fn sums::more::S::get: no proof: expected answers in ./proofs/more/S/get/Answers.antt; `search` did not prove `fits`, `returns`\nlogic=not-proved\n"
+# In the place of rt: prints the log whose marks, one to a line, all stand in the crate; where more than one fits, that with the most.
+RT = """#!/usr/bin/env python3
+import glob, os, sys
+if sys.argv[1] == "version":
+    sys.exit(print("kit"))
+read = lambda path: open(path, encoding="utf-8").read()
+texts = "".join(read(path) for part in ("src", "specs", "proofs") for path in glob.glob(f"{part}/**/*.*", recursive=True))
+fits = []
+for path in glob.glob(f"{os.environ['LOGS']}/{os.path.basename(os.getcwd())}/**/log", recursive=True):
+    marks = path[:-3] + "marks"
+    lines = read(marks).splitlines() if os.path.exists(marks) else []
+    fits += [(len(lines), path)] if all(line in texts for line in lines) else []
+log = read(max(fits)[1])
+print(log, end="")
+open(f"{os.environ['LOGS']}/tried", "a", encoding="utf-8").write(f"{os.getcwd()}\\n")
+sys.exit("logic=proved" not in log)
+"""
 
 
-def log(label, facts):
-    lines = [f"/r/target/must-fail/sums/{label}/proofs/{path}.antt:1:2: error: `{fact}`: {why or 'no'}\n" for path, fact, why in facts]
-    return "".join(lines) + "logic=not-proved\n"
+def log(facts):
+    return "".join(f"./proofs/{path}.antt:1:2: error: `{fact}`: {why or 'no'}\n" for path, fact, why in facts) + "logic=not-proved\n"
 
 
 class Repository(unittest.TestCase):
@@ -128,8 +151,25 @@ class Repository(unittest.TestCase):
         for name, text in GOOD.items():
             self.write(name, text)
         for label, facts in FAILS.items():
-            self.write(f"target/must-fail/sums/{label}/.log", log(label, facts))
-        self.write("target/must-fail/sums/got_two/.log", SEARCHED)
+            self.refuses(label, log(facts))
+        self.refuses("got_two", SEARCHED)
+        self.write("bin/rt", RT)
+        os.chmod("bin/rt", 0o700)
+        path = f"{self.root}/bin:{os.environ['PATH']}"
+        environment = mock.patch.dict(os.environ, {"LOGS": f"{self.root}/logs", "PATH": path, "XDG_CACHE_HOME": f"{self.root}/cache"})
+        self.addCleanup(environment.stop)
+        environment.start()
+
+    def forget(self):
+        refused.version.cache_clear()
+        refused.sum_of_text.cache_clear()
+
+    def refuses(self, label, text):
+        """Has the prover say something of an edit."""
+        lines = source.read(f"crates/sums/must-fail/{label}.edit").splitlines()
+        marks = [line[5:] for line in lines if line.startswith("new: ") and f"old: {line[5:]}" not in lines]
+        self.write(f"logs/sums/{label}/marks", "".join(f"{mark}\n" for mark in marks))
+        self.write(f"logs/sums/{label}/log", text)
 
     def write(self, name, text):
         os.makedirs(os.path.dirname(name) or ".", exist_ok=True)
@@ -143,6 +183,7 @@ class Repository(unittest.TestCase):
 
     def script(self, name):
         """Runs a script on the repository: its faults, and what it prints otherwise."""
+        self.forget()
         said = io.StringIO()
         with mock.patch.object(sys, "argv", [name, self.root]), contextlib.redirect_stdout(said):
             try:
@@ -201,7 +242,7 @@ class Contracts(Repository):
     def test_a_requires_or_a_ghost_is_found(self):
         for path, text in self.each_shape():
             for kind in ("requires", "ghost"):
-                for clause in (f"{kind} {{ ⌜ x ≡ 1 ⌝ }}", f"{kind} small {{ ⌜ x ≡ {{ 1 }} ⌝ }}"):
+                for clause in (f"{kind} {{ x ≡ 1 }}", f"{kind} small {{ x ≡ {{ 1 }} }}", f"{kind}* {{ ⌜ x ≡ 1 ⌝ }}", f"{kind} g: {{ ℕ }}"):
                     self.assertEqual(self.faults(text.replace("@", f"{clause} {ENSURES}")), [f"{path} has a {kind}"])
                     self.assertEqual(self.faults(text.replace("@", clause)), [f"{path} has no ensures", f"{path} has a {kind}"])
 
@@ -229,7 +270,7 @@ class Contracts(Repository):
 class Refused(Repository):
     def edit(self, label, text, facts):
         self.write(f"crates/sums/must-fail/{label}.edit", text)
-        self.write(f"target/must-fail/sums/{label}/.log", log(label, facts))
+        self.refuses(label, log(facts))
 
     def test_good(self):
         self.passes("refused")
@@ -266,31 +307,111 @@ class Refused(Repository):
 
     def test_a_constant_reaches_its_users(self):
         self.assertEqual(refused.reached("sums", [("src/lib.rt", "ONE: u32 = 1", "ONE: u32 = 2")]), {"double"})
-        self.assertEqual(refused.reached("sums", [("src/lib.rt", "    x + 7", "    /* } */ x + 7")]), set())
+        self.assertEqual(refused.reached("sums", [("src/lib.rt", "    (x + 7)", "    /* } */ (x + 7)")]), set())
         self.assertEqual(refused.reached("sums", [("src/lib.rt", "mod more", "pub mod more")]), {""})
 
     def test_the_fact_must_fail_by_itself(self):
-        for facts in ([], [("double/Proof", "returns", "")], [("plain/Proof", "returns", f"`x` {refused.FOLLOWS}")]):
+        for facts in ([], [("double/Answers", "returns", "")], [("plain/Answers", "returns", f"`x` {refused.FOLLOWS}")]):
+            shutil.rmtree("cache", ignore_errors=True)
             self.edit("contract", GOOD["crates/sums/must-fail/contract.edit"], facts)
-            self.fails("refused", "contract.edit: contract: plain returns does not fail")
-        shutil.rmtree("target/must-fail/sums/contract")
-        self.fails("refused", "contract.edit: contract: plain returns does not fail")
+            self.fails("refused", "contract.edit: contract: plain returns does not fail; what does fail: ")
+        self.fails("refused", "what does fail: nothing")
+
+    def test_what_fails_instead_is_told(self):
+        self.edit("contract", GOOD["crates/sums/must-fail/contract.edit"], [("plain/Answers", "fits", ""), ("double/Answers", "returns", "")])
+        self.fails("refused", "contract: plain returns does not fail; what does fail: plain: fits")
+
+    def test_every_form_of_a_refusal(self):
+        of_others = "fn other::f: no proof: `search` did not prove `returns`\nnote: `fits` of proofs/f/Answers.antt may be false\n"
+        opened = "note: src/lib.rt:1:1: it is not proved that it holds (`returns-then-x-lt4`); what is known allows `x` = 1\nfn sums::f: not proved\n"
+        searched = "fn sums::m::g: no proof: expected answers in ./proofs/m/g/Answers.antt; `search` did not prove `overflow_add-sum`, `returns`\n"
+        law = "./proofs/Deep/Laws.antt:1:2: error: `is-so`: expected type `x`\nwarning: `y`\n"
+        found = refused.failing("sums", of_others + opened + searched + law + log([("+even/Answers", "returns", "")]))
+        facts = [("Deep::Laws", "is-so"), ("even", "returns"), ("f", "returns-then-x-lt4"), ("m::g", "overflow_add-sum"), ("m::g", "returns")]
+        self.assertEqual((sorted(found[0]), found[1]), (facts, []))
+
+    def test_a_crate_that_is_still_proved(self):
+        self.refuses("contract", GOOD["logs/sums/log"])
+        self.fails("refused", "contract.edit: the prover does not refuse it", "contract: plain returns does not fail")
+
+    def test_a_check_that_tells_nothing_is_not_kept(self):
+        self.refuses("contract", "error: out of memory\n")
+        for _ in range(2):
+            self.fails("refused", "contract.edit: the prover does not refuse it: error: out of memory status=1")
+        self.refuses("contract", log(FAILS["contract"]))
+        self.passes("refused")
+
+    def test_what_was_checked_is_kept(self):
+        self.passes("refused")
+        self.assertEqual(source.read("logs/tried").count("\n"), 8)
+        self.passes("refused")
+        self.assertEqual(source.read("logs/tried").count("\n"), 8)
+        self.change("crates/sums/must-fail/contract.edit", "plain(y", "plain(yy")
+        self.refuses("contract", log(FAILS["contract"]))
+        self.passes("refused")
+        self.assertEqual(source.read("logs/tried").count("\n"), 9)
+        self.change("crates/sums/proofs/Steps.antt", "step = 1", "step = 0")
+        self.passes("refused")
+        self.assertEqual(source.read("logs/tried").count("\n"), 17)
+
+    def test_what_a_check_reads_is_kept_apart(self):
+        self.write("crates.txt", "sums staticlib: std\nrun: sums io\n")
+        self.forget()
+        before = {crate: refused.sum_of_text(crate) for crate in ("sums", "run")}
+        cases = {"crates/sums/specs/Sums.antt": "sums run", "crates/run/src/main.rt": "run", "crates.txt": "sums run", "bin/rt": "sums run", "README.md": ""}
+        for name, changed in cases.items():
+            text = source.read(name)
+            self.write(name, text.replace("std", "core").replace('"kit"', '"kit 2"') + "\n")
+            os.chmod("bin/rt", 0o700)
+            self.forget()
+            self.assertEqual([one for one in before if refused.sum_of_text(one) != before[one]], changed.split(), name)
+            self.write(name, text)
+
+    def test_a_text_that_is_not_there_once(self):
+        for old in ("x + 9", "u32"):
+            self.edit("contract", f"# contract, refused at plain: returns\nfile: src/lib.rt\nold: {old}\nnew: x\n", FAILS["contract"])
+            self.fails("refused", f"contract.edit: not in src/lib.rt once: {old}")
 
     def test_other_facts(self):
-        self.edit("contract", GOOD["crates/sums/must-fail/contract.edit"], [*FAILS["contract"], ("plain/Proof", "w", "it has no `Need-x`")])
-        self.fails("refused", "contract.edit: it changes which facts a function needs")
+        for words in ("record `After` has no field `sum`", "`goal.y`: module `Goals` has no `y` that can be named", "`z` is not in scope"):
+            shutil.rmtree("cache", ignore_errors=True)
+            self.edit("contract", GOOD["crates/sums/must-fail/contract.edit"], [*FAILS["contract"], ("plain/Answers", "w", words)])
+            self.fails("refused", "contract.edit: it changes which facts plain needs")
+
+    def test_a_condition_of_another_name(self):
+        """The answer to a goal that is named after a condition is tried under the name that the condition has now."""
+        answers = "pub returns-then-x-lt8 : goal.returns-then-x-lt8\nreturns-then-x-lt8 c = omega (arith, c.if-x-lt8.true, c.if-x-lt80.true, d.x-lt8)\n"
+        self.write("crates/sums/proofs/plain/Answers.antt", answers)
+        self.change("crates/sums/src/lib.rt", "    (x + 7) * 1\n", "    if x < 8 { x + 7 } else { 0 }\n")
+        self.change("crates/sums/must-fail/wrong_code.edit", "old: x + 7\nnew: x + 8", "old: if x < 8\nnew: if x < 9")
+        self.change("crates/sums/must-fail/wrong_code.edit", "plain: returns", "plain: returns-then-x-lt9")
+        gone = "`goal.returns-then-x-lt8`: module `Rattle.sums.proofs.plain.Goals` has no `returns-then-x-lt8` that can be named from here"
+        asks = "help: `Goals` has no `returns-then-x-lt8`; rattle asks for `returns-then-x-lt9`, `returns` and 1 more; `Then-x-lt9`, `Then-x-lt80`\n"
+        others = [fact for fact in FAILS["wrong_code"] if fact[0] != "plain/Answers"]
+        self.refuses("wrong_code", log([*others, ("plain/Answers", "returns-then-x-lt8", gone)]) + "fn sums::plain: not proved\n" + asks)
+        self.fails("refused", "it changes which facts plain needs", "eight: plain returns-then-x-lt9 does not fail")
+        shutil.rmtree("cache")
+        marks = source.read("logs/sums/wrong_code/marks") + answers.replace("x-lt8", "x-lt9").replace("x-lt90", "x-lt80").replace("d.x-lt9", "d.x-lt8")
+        self.write("logs/sums/renamed/marks", marks)
+        self.write("logs/sums/renamed/log", log([*others, ("plain/Answers", "returns-then-x-lt9", "")]))
+        self.passes("refused")
+
+    def test_goals_that_wait(self):
+        waits = "note: `search` has not tried the goals of `sums::plain`, which wait for a callee's proof\n"
+        self.refuses("wrong_code", waits + log([fact for fact in FAILS["wrong_code"] if fact[0] != "plain/Answers"]))
+        self.fails("refused", "eight: plain returns is not tried, since what it calls is wrong too")
 
     def test_wrong_programs_that_share_a_file(self):
         text, facts = GOOD["crates/sums/must-fail/wrong_code.edit"], FAILS["wrong_code"]
-        self.edit("wrong_code", text + "\n# nine, refused at plain: returns\nfile: src/lib.rt\nold: x + 7\nnew: x + 9\n", facts)
+        self.edit("wrong_code", text + "\n# nine, refused at plain: returns\nfile: src/lib.rt\nold: ) * 1\nnew: ) * 2\n", facts)
         self.fails("refused", "two wrong programs reach plain")
         self.edit("wrong_code", text.replace("old: x + 7\nnew: x + 8", "old: pub fn plain(x\nnew: pub fn plain(y"), facts)
         self.fails("refused", "eight: a wrong definition or contract")
 
     def test_what_an_edit_changes(self):
         none = "it changes no code and no definition"
-        for file, old, message in (("proofs/Laws.antt", "refl", "it changes a proof"), ("src/lib.rt", "// none", none)):
-            self.edit("contract", f"# contract, refused at plain: returns\nfile: {file}\nold: {old}\nnew: other\n", FAILS["contract"])
+        for file, old, message in (("proofs/Laws.antt", "a = refl", "it changes a proof"), ("src/lib.rt", "// Sums.", none)):
+            self.edit("contract", f"# contract, refused at plain: returns\nfile: {file}\nold: {old}\nnew: // other\n", FAILS["contract"])
             self.fails("refused", message)
         self.edit("contract", "# contract, refused at plain : returns\nfile: src/lib.rt\nold: x + 7\nnew: x\n", FAILS["contract"])
         self.fails("refused", "contract.edit: out of place")
@@ -300,10 +421,22 @@ class Refused(Repository):
         self.fails("refused", "two wrong programs named thrice")
 
     def test_functions_that_the_prover_names(self):
-        self.write("target/log/sums.out", GOOD["target/log/sums.out"] + "fn sums::hidden: proved\n")
+        self.write("logs/sums/log", "fn sums::hidden: proved\n" + GOOD["logs/sums/log"])
         self.fails("refused", "crates/sums: found by the prover or the reader alone: hidden")
-        self.write("target/log/sums.out", "")
+        shutil.rmtree("cache")
+        self.write("logs/sums/log", "logic=proved\n")
         self.fails("refused", "alone: helper", "alone: more::S::get")
+
+    def test_a_crate_that_is_not_proved(self):
+        self.write("logs/sums/log", "error: no\n")
+        self.fails("refused", "crates/sums: not proved: error: no")
+
+    def test_some_crates_alone(self):
+        self.change("crates/sums/must-fail/contract.edit", "plain: returns", "plain: fits")
+        self.forget()
+        with mock.patch.object(sys, "argv", ["refused", self.root, "run"]), contextlib.redirect_stdout(io.StringIO()):
+            refused.main()
+        self.fails("refused", "contract: plain fits does not fail")
 
     def test_unreadable(self):
         self.change("crates/sums/src/lib.rt", "mod more;", "mod more")
@@ -324,7 +457,7 @@ class Theorems(Repository):
         self.passes("theorems")
 
     def test_removed(self):
-        theorem = "pub adds : Adds\nunfolding sumOf\nadds = record { a = refl }\n"
+        theorem = "pub adds : Adds\nunfolding sum_of\nadds = record { a = refl }\n"
         self.wrong(self.laws, theorem, "", "Laws.antt: adds: it is not declared there, once")
         os.remove("crates/sums/must-fail/definition.edit")
         self.wrong(self.laws, theorem, "", "Laws.antt: adds: it is not declared there, once")
@@ -338,16 +471,16 @@ class Theorems(Repository):
 
     def test_another_statement(self):
         self.wrong(self.laws, "pub adds : Adds", "pub adds : Adds → Adds", "adds: it is declared as another one: pub adds : Adds → Adds")
-        self.wrong(self.laws, "sumOf n .all ≡ n\n", "n ≡ n\n", "same: it is declared as another one")
+        self.wrong(self.laws, "(sum_of n).all ≡ n\n", "n ≡ n\n", "same: it is declared as another one")
         self.wrong(self.laws, "pub adds : Adds", "adds : Adds", "adds: it is declared as another one: adds : Adds")
         self.wrong(self.laws, "pub adds : Adds", "axiom pub adds : Adds", "adds: it is declared as another one")
 
     def test_other_names_in_the_statement(self):
-        self.wrong(self.laws, "{Adds, sumOf}", "{Less as Adds, sumOf}", "adds: Adds of its statement is Less of")
-        self.wrong(self.laws, "{Adds, sumOf}", "{sumOf}", "adds: Adds of its statement is neither bound nor imported by its name")
+        self.wrong(self.laws, "{Adds, sum_of}", "{Less as Adds, sum_of}", "adds: Adds of its statement is Less of")
+        self.wrong(self.laws, "{Adds, sum_of}", "{sum_of}", "adds: Adds of its statement is neither bound nor imported by its name")
         self.wrong(self.laws, "-- Why.", "record Adds : Type 0 where\n  a : ℕ\n", "adds: Adds of its statement is declared beside it")
-        self.wrong(self.laws, "specs.specs.Sums.{Adds", "proofs.proofs.Sums.{Adds", "adds: Adds of its statement is Adds of Rattle·sums·proofs")
-        self.wrong(self.laws, "{_≡_, refl}", "{_~_ as _≡_, refl}", "same: ≡ of its statement is _~_ of mathlib")
+        self.wrong(self.laws, "specs.Sums.{Adds", "proofs.Sums.{Adds", "adds: Adds of its statement is Adds of Rattle.sums.proofs")
+        self.wrong(self.laws, "{◌≡◌, refl}", "{◌~◌ as ◌≡◌, refl}", "same: ≡ of its statement is ◌~◌ of mathlib")
 
     def test_no_proof(self):
         self.wrong(self.laws, "adds = record { a = refl }\n", "", "adds: it has no proof")
@@ -414,12 +547,13 @@ class Layout(Repository):
         self.fails("layout", *(f"crates/sums/{name}: a stray file" for name in strays), "crates/run/stderr: a stray file")
 
     def test_rattle_and_antt_elsewhere(self):
-        for name in ("a.rt", "docs/a.antt", "crates/sums/must-fail/a.rt", "examples/target/a.rt"):
+        names = ("a.rt", "docs/a.antt", "crates/sums/must-fail/a.rt", "examples/target/a.rt", "examples/out/a.rt", "out/a.antt", "crates/out/a.rt")
+        for name in names:
             self.write(name, "")
-        self.fails("layout", *(f"{name}: outside of" for name in ("a.rt", "docs/a.antt", "crates/sums/must-fail/a.rt", "examples/target/a.rt")))
+        self.fails("layout", *(f"{name}: outside of" for name in names))
 
     def test_modules(self):
-        undeclared = ["specs/More.antt", *(f"proofs/{name}.antt" for name in ("More", "nothing/Proof", "double/More", "+double+gone/Proof"))]
+        undeclared = ["specs/More.antt", *(f"proofs/{name}.antt" for name in ("More", "nothing/Proof", "nothing/Answers", "double/More", "+double+gone/Answers"))]
         for name in undeclared:
             self.write(f"crates/sums/{name}", "")
         self.write("crates/sums/specs/Lib.antt", "pub mod Sums\nmod Missing\n")
@@ -430,8 +564,8 @@ class Layout(Repository):
         self.fails("layout", *(f"crates/sums/{message}" for message in messages))
 
     def test_modules_of_proofs(self):
-        self.write("crates/sums/proofs/double/Proof.antt", "mod Lemmas\n")
-        for name in ("double/Proof/Lemmas", "+plain/Proof", "+double+plain/Proof", "more/S/get/Proof", "more"):
+        self.write("crates/sums/proofs/double/Answers.antt", "mod Lemmas\n")
+        for name in ("double/Answers/Lemmas", "+plain/Answers", "+double+plain/Invariants", "more/S/get/Proof", "more"):
             self.write(f"crates/sums/proofs/{name}.antt", "")
         self.passes("layout")
 
@@ -517,15 +651,14 @@ class Gate(unittest.TestCase):
     """The script `run` itself, with other programs in the place of those that it calls. Each of its parts can be made to fail."""
 
     SCRIPTS = ("layout", "contracts", "theorems", "tests", "memory", "refused")
-    PARTS = (*SCRIPTS, "fmt", "ci", "harness", "staticlib", "header", "built", "program", "statement", "use", "compared")
+    PARTS = (*SCRIPTS, "ci", "bad", "harness", "library", "header", "built", "program", "statement", "use", "compared")
     PROGRAMS = {  # each ends by naming its part
         "bin/python3": 'case $1 in harness/use/*) set use ;; *) set "$(basename "$1" .py)" ;; esac',
-        "bin/rt": '[ "$1" != ci ] || { echo "rt: kozempil proved (1 s)"; sleep 0.1; echo "rt: statement proved (1 s)"; echo "2 passed, 0 failed"; }',
+        "bin/rt": 'bad=; [ "$FAILS" != bad ] || bad=", 1 bad"; echo "rt: ok; must-fail edits: 3 refused$bad; done"; echo "2 passed, 0 failed"; [ "$*" = ci ] || exit 1',
         "bin/cargo": 'case $PWD/$1 in */compare/run) set compared ;; */compare/*) set built ;; *) set harness ;; esac',
         "statement": "echo ok; set statement",
-        "program/build": 'case $1 in statement) set program ;; *) set staticlib ;; esac',
+        "program/build": 'case $1 in statement) set program ;; esac',
         ".ci/header": "set header",
-        ".ci/temporary": "echo /tmp; set temporary",
     }
 
     def setUp(self):
@@ -560,10 +693,6 @@ class Gate(unittest.TestCase):
                 with self.subTest(part=part):
                     self.assertNotEqual(status, 0, said)
                     self.assertTrue(part == "ci" or last != "2 passed, 0 failed", said)
-
-    def test_a_crate_that_is_never_proved(self):
-        self.program("bin/rt", '#!/bin/sh\n[ "$1" != ci ] || echo "1 passed, 0 failed"\n')
-        self.assertEqual(self.gate("")[:2], (1, "library_and_program failed"))
 
 
 if __name__ == "__main__":
