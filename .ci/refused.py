@@ -361,7 +361,9 @@ def not_there(path):
 
 
 def room():
-    """How many checks fit beside one another."""
+    """How many checks fit beside one another, or what RT_JOBS says, as for rt."""
+    if os.environ.get("RT_JOBS", "").isdigit():
+        return max(1, int(os.environ["RT_JOBS"]))
     with open("/proc/meminfo", encoding="ascii") as file:
         free = 1024 * int(re.search(r"MemAvailable:\s+(\d+)", file.read())[1])
     return max(1, min(len(os.sched_getaffinity(0)), free // MEMORY))

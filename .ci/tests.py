@@ -695,5 +695,59 @@ class Gate(unittest.TestCase):
                     self.assertTrue(part == "ci" or last != "2 passed, 0 failed", said)
 
 
+class Build(unittest.TestCase):
+    """The script `program/build`, with other programs in the place of rt and cc."""
+
+    PROGRAMS = {
+        "bin/rt": 'case $1 in doc) echo "$KIT/page.md" ;; lib) echo "$PWD" >> "$KIT/libs"; mkdir -p out; cp src/lib.rt "out/lib$(basename "$PWD").a"; [ "$FAILS" != lib ] ;; *) exit 1 ;; esac',
+        "bin/cc": 'echo "$@" >> "$KIT/linked"; for last; do :; done; echo made > "$last"; [ "$FAILS" != cc ]',
+    }
+
+    def setUp(self):
+        self.root = tempfile.mkdtemp()
+        self.addCleanup(shutil.rmtree, self.root)
+        for folder in ("bin", "program", "crates/kozempil/src", "crates/statement/src"):
+            os.makedirs(f"{self.root}/{folder}")
+        for name in ("crates.txt", "VERSION", "program/statement.c", "crates/kozempil/src/lib.rt", "crates/statement/src/lib.rt"):
+            self.write(name, f"{name}\n")
+        for name, text in self.PROGRAMS.items():
+            self.write(name, f"#!/bin/sh\n{text}\n")
+        shutil.copy(f"{os.path.dirname(HERE)}/program/build", f"{self.root}/program/build")
+
+    def write(self, name, text):
+        with open(f"{self.root}/{name}", "w", encoding="utf-8") as file:
+            file.write(text)
+        os.chmod(f"{self.root}/{name}", 0o700)
+
+    def read(self, name):
+        return source.read(f"{self.root}/{name}") if os.path.exists(f"{self.root}/{name}") else ""
+
+    def build(self, what, fails=""):
+        environment = {**os.environ, "PATH": f"{self.root}/bin:{os.environ['PATH']}", "KIT": self.root, "FAILS": fails}
+        return subprocess.run(["bash", f"{self.root}/program/build", what], env=environment, capture_output=True, check=False).returncode
+
+    def test_a_library_is_put_in_place(self):
+        self.assertEqual(self.build("library"), 0)
+        self.assertEqual(self.read("target/staticlib/libkozempil.a"), "crates/kozempil/src/lib.rt\n")
+        self.assertEqual(self.read("libs"), f"{self.root}/crates/kozempil\n")
+
+    def test_a_program_is_linked_with_the_c_of_the_kit(self):
+        self.assertEqual(self.build("statement"), 0)
+        self.assertEqual(self.read("target/bin/statement"), "made\n")
+        self.assertIn(f"target/staticlib/libstatement.a {self.root}/c/libos_c.a {self.root}/c/liblibc_c.a -o ", self.read("linked"))
+
+    def test_nothing_is_built_twice(self):
+        for _ in range(2):
+            self.assertEqual([self.build("library"), self.build("statement")], [0, 0])
+        self.assertEqual((self.read("libs").count("\n"), self.read("linked").count("\n")), (2, 1))
+        os.utime(f"{self.root}/crates/kozempil/src/lib.rt", (2**32, 2**32))
+        self.assertEqual([self.build("library"), self.build("statement")], [0, 0])
+        self.assertEqual((self.read("libs").count("\n"), self.read("linked").count("\n")), (4, 2))
+
+    def test_what_fails_is_not_put_in_place(self):
+        self.assertEqual([self.build("library", "lib") != 0, self.build("statement", "cc") != 0], [True, True])
+        self.assertEqual(self.read("target/staticlib/libkozempil.a") + self.read("target/bin/statement"), "")
+
+
 if __name__ == "__main__":
     unittest.main()
