@@ -14,6 +14,7 @@ or a function of its crate that it calls. The functions are those that the prove
 
     .ci/refused.py [FOLDER [CRATE ..]]     looks at the repository in a folder, or at some of its crates alone
 """
+import contextlib
 import difflib
 import functools
 import glob
@@ -141,13 +142,13 @@ def kept(crate, replacements):
 
 
 def keep(crate, replacements, log):
-    """Keeps a log, but not of a check that told nothing."""
-    if re.search(r"^logic=", log, re.M):
-        os.makedirs(cache(), exist_ok=True)
-        path = place_in_cache(crate, replacements)
-        with tempfile.NamedTemporaryFile("w", dir=cache(), delete=False, encoding="utf-8") as file:
-            file.write(log)
-        os.replace(file.name, path)
+    """Keeps a log where it can, but not of a check that told nothing."""
+    with contextlib.suppress(OSError):
+        if re.search(r"^logic=", log, re.M):
+            os.makedirs(cache(), exist_ok=True)
+            with tempfile.NamedTemporaryFile("w", dir=cache(), delete=False, encoding="utf-8") as file:
+                file.write(log)
+            os.replace(file.name, place_in_cache(crate, replacements))
     return log
 
 

@@ -118,7 +118,7 @@ FAILS = {  # the errors that the log of each edit has
 }
 SEARCHED = "fn sums::more::S::get: no proof: expected answers in ./proofs/more/S/get/Answers.antt; `search` did not prove `fits`, `returns`\nlogic=not-proved\n"
 # In the place of rt: prints the log whose marks, one to a line, all stand in the crate; where more than one fits, that with the most.
-RT = """#!/usr/bin/env python3
+RT = """#!/usr/bin/env -S python3 -ISE
 import glob, os, sys
 if sys.argv[1] == "version":
     sys.exit(print("kit"))
