@@ -27,9 +27,10 @@ import shutil
 import subprocess
 import sys
 import tempfile
+import time
 from concurrent.futures import ThreadPoolExecutor
 
-from source import Unreadable, crates, enter, files, finish, read, source, uses
+from source import Unreadable, crates, enter, finish, read, source, uses
 
 HEAD = re.compile(r"^# (\w+), refused at ([\w:]+): ([\w'-]+)$")
 PARTS = ("src", "specs", "proofs")
@@ -137,8 +138,20 @@ def place_in_cache(crate, replacements):
 
 def kept(crate, replacements):
     """What the prover said earlier of a crate with these replacements, or None."""
-    path = place_in_cache(crate, replacements)
-    return read(path) if os.path.exists(path) else None
+    with contextlib.suppress(OSError):
+        path = place_in_cache(crate, replacements)
+        log = read(path)
+        os.utime(path)
+        return log
+    return None
+
+
+def forget():
+    """Removes what no run has used for two months."""
+    for path in glob.glob(f"{glob.escape(cache())}/*"):
+        with contextlib.suppress(OSError):
+            if os.path.getmtime(path) < time.time() - 60 * 86400:
+                os.remove(path)
 
 
 def keep(crate, replacements, log):
@@ -278,7 +291,8 @@ def faults_of(path, log):
     facts, others = failing(crate, log)
     faults += [f"it changes which facts {place} needs" for place in others]
     if not re.search(r"^logic=not-proved", log, re.M):
-        faults.append(f"the prover does not refuse it: {' '.join(log.splitlines()[:2])[:300]}")
+        lines = log.splitlines()
+        faults.append(f"the prover does not refuse it: {lines[0][:200]} .. {lines[-1]}")
     shared = []
     for name, place, fact, replacements in programs:
         functions = reached(crate, replacements)
@@ -372,6 +386,7 @@ def room():
 
 def logs_of(listed, paths):
     """What the prover says of each crate as it stands, and of each edit: what was kept of earlier runs, and the rest from checks, side by side."""
+    forget()
     logs = {(crate, ""): kept(crate, []) for crate in listed}
     for crate in (crate for crate in listed if logs[crate, ""] is None):
         logs[crate, ""] = keep(crate, [], check(f"crates/{crate}"))

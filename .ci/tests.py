@@ -337,7 +337,7 @@ class Refused(Repository):
     def test_a_check_that_tells_nothing_is_not_kept(self):
         self.refuses("contract", "error: out of memory\n")
         for _ in range(2):
-            self.fails("refused", "contract.edit: the prover does not refuse it: error: out of memory status=1")
+            self.fails("refused", "contract.edit: the prover does not refuse it: error: out of memory .. status=1")
         self.refuses("contract", log(FAILS["contract"]))
         self.passes("refused")
 
@@ -353,6 +353,15 @@ class Refused(Repository):
         self.change("crates/sums/proofs/Steps.antt", "step = 1", "step = 0")
         self.passes("refused")
         self.assertEqual(source.read("logs/tried").count("\n"), 17)
+
+    def test_what_is_long_unused_is_forgotten(self):
+        self.passes("refused")
+        first, second, *_ = there = sorted(os.listdir("cache/kozempil/refused"))
+        os.utime(f"cache/kozempil/refused/{first}", (0, 0))
+        self.write(f"cache/kozempil/refused/{second}x", "")
+        os.utime(f"cache/kozempil/refused/{second}x", (0, 0))
+        self.passes("refused")
+        self.assertEqual(sorted(os.listdir("cache/kozempil/refused")), there)
 
     def test_what_a_check_reads_is_kept_apart(self):
         self.write("crates.txt", "sums staticlib: std\nrun: sums io\n")
