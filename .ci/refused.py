@@ -290,6 +290,7 @@ def faults_of(path, log):
     programs, faults = wrong_programs(path)
     facts, others = failing(crate, log)
     faults += [f"it changes which facts {place} needs" for place in others]
+    faults += [f"the prover cannot read it: {line[:200]}" for line in unread(log)[:1]]
     if not re.search(r"^logic=not-proved", log, re.M):
         lines = log.splitlines()
         faults.append(f"the prover does not refuse it: {lines[0][:200]} .. {lines[-1]}")
@@ -316,6 +317,11 @@ def told(facts, places):
     """Facts that fail, those of some places where there are any."""
     some = [fact for fact in sorted(facts) if fact[0] in places] or sorted(facts)
     return ", ".join(f"{place}: {fact}" for place, fact in some) or "nothing"
+
+
+def unread(log):
+    """The errors of a log in code and definitions, which a wrong program has where it does not even read well."""
+    return [line for line in log.splitlines() if re.match(r"(?:\./)?(?:src|specs)/\S+:\d+:\d+: error|error", line)]
 
 
 def calls(one, other):

@@ -405,6 +405,12 @@ class Refused(Repository):
         self.write("logs/sums/renamed/log", log([*others, ("plain/Answers", "returns-then-x-lt9", "")]))
         self.passes("refused")
 
+    def test_a_wrong_program_that_does_not_read_well(self):
+        for error in ("error[unknown-name]: cannot find value `y`", "./specs/Sums.antt:2:3: error: `sum_of`: `y` is not in scope", "src/lib.rt:1:2: error[x]: no"):
+            shutil.rmtree("cache", ignore_errors=True)
+            self.refuses("definition", f"{error}\n" + log(FAILS["definition"]))
+            self.fails("refused", f"definition.edit: the prover cannot read it: {error}")
+
     def test_goals_that_wait(self):
         waits = "note: `search` has not tried the goals of `sums::plain`, which wait for a callee's proof\n"
         self.refuses("wrong_code", waits + log([fact for fact in FAILS["wrong_code"] if fact[0] != "plain/Answers"]))
