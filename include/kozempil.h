@@ -1,6 +1,6 @@
 /* Kozempil: bills of net metered accounts under the banked and the bridge rider.
  *
- * Link with libkozempil.a, which is built for x86-64-v2. Each function reads and writes the buffers that it is lent and keeps nothing between
+ * Link with libkozempil.a, which is built for x86-64. Each function reads and writes the buffers that it is lent and keeps nothing between
  * calls, so calls may run in several threads at once, as long as no buffer that one of them writes is lent to another at the same time.
  * Every input has a defined meaning: no call fails, hangs or reads past a buffer.
  *

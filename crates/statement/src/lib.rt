@@ -290,7 +290,7 @@ fn finish(
 
 // Reads the descriptor `input` to its end, writes to `output` what `statement` prints for it, as soon as it is known, and says how that ended. A
 // read or a write that fails is the last call of C, so that errno has its reason. The kit's library reads standard input alone, by a handle that takes no place in
-// the call from C: of any other descriptor it is said that a read failed, and a program puts the file that it has opened in the place of standard input.
+// the call from C: of any other descriptor it is said that a read failed, without a call of C, and a program puts the file that it has opened in the place of standard input.
 #[unsafe(no_mangle)]
 pub extern "C" fn statement_print(
     stdin: Stdin,
