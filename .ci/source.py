@@ -121,7 +121,7 @@ def clause(text, keyword):
             return keyword.group(), after_antt(text, token.end, "}")
         if keyword.group() == "ghost" and token.text == "use":
             return "word", after_antt(text, token.end, ";")
-        if token.kind != "word" and token.text not in ("*", ":"):  # ensures* { .. }, ghost name: { .. }
+        if token.kind != "word" and token.text not in ("*", ":", "="):  # ensures* { .. }, ghost name: { .. }, ghost name = { .. };
             break
     raise Unreadable(f"{place(text, keyword.start())}: `{keyword.group()}` without braces")
 
@@ -183,6 +183,9 @@ class Reader:
 
     def item(self, path):
         start, public = self.now().start, False
+        if self.now().kind == "ghost":  # a member of a trait, or what an `impl` gives for it
+            self.until(";")
+            return self.next()
         if self.now().text == "#" and self.tokens[self.at + 1].text == "!":  # of the whole file
             self.until("[")
             return self.group()
@@ -207,6 +210,10 @@ class Reader:
             self.method = True
             self.block([*path, *self.implemented()])
             self.method = False
+        elif word == "trait":
+            path = [*path, self.now().text]
+            self.until("{")
+            self.block(path)
         elif word == "mod":
             self.module(path)
         elif word in ("struct", "enum", "union"):
@@ -229,15 +236,23 @@ class Reader:
         self.next()
 
     def implemented(self):
-        """The path of the type of an `impl`."""
+        """The path of the type of an `impl`; of an `impl` of a trait the name that the prover makes of both: U32FromRefusal for `From<Refusal> for u32`."""
         before = self.at
         self.until("{")
-        words, depth = [], 0
+        names, inner, trait, depth = [], [], None, 0
         for token in self.tokens[before : self.at]:
             depth += (token.text == "<") - (token.text == ">")
-            if depth == 0 and token.kind == "word" and token.text not in ("crate", "self"):
-                words = [] if token.text == "for" else [*words, token.text]
-        return words
+            if token.kind != "word" or token.text in ("crate", "self") or token.text.startswith("'"):
+                continue
+            if depth == 0 and token.text == "for":
+                names, inner, trait = [], [], names[-1:] + inner
+            elif depth == 0:
+                names, inner = [*names, token.text], []
+            elif names:
+                inner.append(token.text)
+        if trait is None:
+            return names
+        return ["".join(name[:1].upper() + name[1:] for name in (*names[-1:], *trait))]
 
     def module(self, path):
         name = self.name()

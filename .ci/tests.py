@@ -140,6 +140,13 @@ def log(facts):
     return "".join(f"./proofs/{path}.antt:1:2: error: `{fact}`: {why or 'no'}\n" for path, fact, why in facts) + "logic=not-proved\n"
 
 
+# What the prover calls an `impl`.
+IMPLS = {
+    " S": "S", "<T> S<T>": "S", "<'a> S<'a>": "S", " Clone for S": "SClone", " fmt::Display for S": "SDisplay", "<T> Iterator for S<T>": "SIterator",
+    " From<Refusal> for u32": "U32FromRefusal", "<'a> From<&'a S> for T": "TFromS", " TryFrom<u64> for a::S": "STryFromU64",
+}
+
+
 class Repository(unittest.TestCase):
     """A good repository in a temporary folder, to be made wrong."""
 
@@ -257,8 +264,16 @@ class Contracts(Repository):
             self.assertEqual(self.faults(f"{head} f(x: u32) -> u32 {{ x }}\n"), [])
 
     def test_what_cannot_be_read_fails(self):
-        for text in ("pub fn f() {", "/* pub fn f() {}", 'extern "C" { fn f(); }', "trait T {}", "m! {}", "pub fn f() ensures { {- } {}", "}", "mod a"):
+        for text in ("pub fn f() {", "/* pub fn f() {}", 'extern "C" { fn f(); }', "trait T", "m! {}", "pub fn f() ensures { {- } {}", "}", "mod a"):
             self.assertRegex("\n".join(self.faults(text)), r"line \d+")
+
+    def test_a_trait_and_what_an_impl_gives(self):
+        text = f"trait T {{ ghost m: {{ Self → ℕ }}; fn g(self) -> u32 {ENSURES}; }}\nimpl T for S {{ ghost m = {{ λ s. {{ 1 }} }};\nfn g(self) -> u32 {{ 1 }} }}{AFTER}"
+        found = source.Reader("", text).read([]).functions
+        self.assertEqual([(one.path, one.public) for one in found], [("T::g", False), ("ST::g", False), ("after", True)])
+        for head, path in IMPLS.items():
+            self.assertEqual([one.path for one in source.Reader("", f"impl{head} {{ fn g() {{}} }}").read([]).functions], [f"{path}::g"])
+        self.assertEqual(self.faults(text), [])
 
     def test_the_script_looks_below_src(self):
         self.passes("contracts")
@@ -438,6 +453,10 @@ class Refused(Repository):
     def test_functions_that_the_prover_names(self):
         self.write("logs/sums/log", "fn sums::hidden: proved\n" + GOOD["logs/sums/log"])
         self.fails("refused", "crates/sums: found by the prover or the reader alone: hidden")
+        shutil.rmtree("cache")
+        made = ("more::SDebug::fmt", "SPartialEq::eq", "fn::plain::any", "fn::more::S::get::any+FnMut::call_mut", "plain+FnOnce::call_once")
+        self.write("logs/sums/log", "".join(f"fn sums::{path}: proved\n" for path in made) + GOOD["logs/sums/log"])
+        self.passes("refused")
         shutil.rmtree("cache")
         self.write("logs/sums/log", "logic=proved\n")
         self.fails("refused", "alone: helper", "alone: more::S::get")

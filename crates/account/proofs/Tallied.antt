@@ -4,117 +4,125 @@ use mathlib.Core.Bool.{Bool, true, false, not, ◌||◌}
 use mathlib.Core.List.{List, [], ◌∷◌}
 use Prim.Native.Nat.{ℕ}
 use native.Mathlib.Omega.{arith}
-use borrow.Author.Tests.{ne_eqb}
+use Rattle.std.specs.Prelude.{Some, None}
 use Rattle.hours.specs.CriticalDays.{critical_refused}
 use Rattle.hours.specs.Hours.{fixed_schedule, by_period}
 use Rattle.registers.specs.Registers.{sum_of, demand_power, length_refused, reading_refused, first_lost, tally_of}
-use Rattle.registers.proofs.Laws.{tally_length, tally_right, power_within}
+use Rattle.registers.proofs.Laws.{tally_wrong, tally_right, power_within}
 use Rattle.registers.proofs.Totals.{total_within}
 use Rattle.tariff.proofs.Laws.{nameplate_within}
-use Rattle.billing.specs.Billing.{bill_or_none, no_bill}
-use Rattle.billing.specs.declared.Bill.{Bill}
+use Rattle.billing.specs.Billing.{bill_or_none}
 use Rattle.registers.specs.declared.Tally.{Tally}
 use lib.Dec.{eqb, ltb}
 use Rattle.calendar.specs.Calendar.{last_month}
+use Rattle.refusals.specs.declared.Condition.{Condition}
 use Rattle.refusals.specs.declared.Faults.{Faults}
+use Rattle.refusals.specs.declared.Refusal.{Refusal}
+use Rattle.refusals.specs.Numbers.{number}
+use Rattle.refusals.proofs.Numbers.{number_above}
 use Rattle.refusals.specs.Table.{row, first_of, billing_row}
-use Rattle.account.specs.declared.BillingReply.{BillingReply}
 use Rattle.billing.proofs.Limits.{billable_true, at_most}
 use Rattle.account.specs.declared.Account.{Account}
 use Rattle.account.specs.Refusals.{is_fresh, unusable, billing_number}
-use Rattle.account.specs.Account.{schedule_of, bill_of, billing_reply}
-use Rattle.account.specs.Tallies.{faults_from, reply_from}
+use Rattle.account.specs.Account.{schedule_of, bill_of}
+use Rattle.account.specs.Tallies.{condition_of, faults_from}
 use Rattle.account.proofs.Accepted.{BillingAccepted, billing_accepted}
+
+-- Nothing is wrong.
+abbrev NoFaults : Faults → Type 0
+NoFaults f = (f.wronglength ≡ false) × ((f.wrongdays ≡ false) × ((f.abovelimit ≡ false) × (f.firstlost ≡ false)))
+
+or_true : (b : Bool) → (b || true) ≡ true
+or_true true = refl
+or_true false = refl
 
 -- The hours that an account is billed by.
 pub schedule_is : (a : Account) → schedule_of a ≡ fixed_schedule
 unfolding schedule_of
 schedule_is a = refl
 
--- Nothing is wrong.
-abbrev no_faults : Faults
-no_faults = record { wronglength = false; wrongdays = false; abovelimit = false; firstlost = false }
-
 module _ (a : Account) (m : ℕ) (delivered received : List ℕ) (x : ℕ) where
-  pub number_is :
-      billing_row (is_fresh a.stage) (unusable a) a.next m
-      (faults_from (tally_of (schedule_of a) m x delivered) (tally_of (schedule_of a) m x received) (critical_refused m x))
-      ≡ billing_number a m delivered received x
-  unfolding billing_row billing_number
-  number_is = by (length_refused m delivered) (length_refused m received) refl refl
-    where
-      by : (b c : Bool) → length_refused m delivered ≡ b → length_refused m received ≡ c
-          → billing_row (is_fresh a.stage) (unusable a) a.next m
-          (faults_from (tally_of (schedule_of a) m x delivered) (tally_of (schedule_of a) m x received) (critical_refused m x))
-          ≡ billing_number a m delivered received x
-      by true c e f = rw (tally_length (schedule_of a) m x delivered, tally_length (schedule_of a) m x received, e)
-      by false true e f = rw (tally_length (schedule_of a) m x delivered, tally_length (schedule_of a) m x received, e, f)
-      by false false e f = rw (tally_right (schedule_of a) m x delivered e, tally_right (schedule_of a) m x received f, e, f)
-
   -- Sums of accepted registers are far below the limits.
   pub bill_is : billing_number a m delivered received x ≡ 0 →
       bill_or_none a.terms a.prices a.carried a.standing m
-      (tally_of (schedule_of a) m x delivered).sums
-      (tally_of (schedule_of a) m x received).sums
-      (tally_of (schedule_of a) m x delivered).power
+      (by_period (sum_of (schedule_of a) m x delivered))
+      (by_period (sum_of (schedule_of a) m x received))
+      (demand_power (schedule_of a) m x delivered)
       ≡ bill_of a m delivered received x
   unfolding bill_or_none bill_of
   bill_is e =
       let k : BillingAccepted a m delivered received x = billing_accepted a m delivered received x e in
       let d = total_within (schedule_of a) m x delivered k.delivered_readings in
       let r = total_within (schedule_of a) m x received k.received_readings in
-      rw (
-        tally_right (schedule_of a) m x delivered k.delivered_length,
-        tally_right (schedule_of a) m x received k.received_length,
-        billable_true a.terms a.prices a.carried a.standing
-            (by_period (sum_of (schedule_of a) m x delivered))
-            (by_period (sum_of (schedule_of a) m x received))
-            (demand_power (schedule_of a) m x delivered)
-            (record {
-              prices = k.account.holds.prices;
-              nameplate = omega (arith, (nameplate_within a.terms k.account.holds.capacity).most);
-              carried_fits = at_most _ _ k.account.possible.carried;
-              delivered_fits = record { critical = omega (arith, d); onpeak = omega (arith, d); offpeak = omega (arith, d); discount = omega (arith, d) };
-              exported_fits = record { critical = omega (arith, r); onpeak = omega (arith, r); offpeak = omega (arith, r); discount = omega (arith, r) };
-              power_fits = omega (arith, power_within (schedule_of a) m x delivered k.delivered_readings);
-              standing_fits = k.account.possible.standing;
-            }),
-      )
+      rw (billable_true a.terms a.prices a.carried a.standing
+      (by_period (sum_of (schedule_of a) m x delivered))
+      (by_period (sum_of (schedule_of a) m x received))
+      (demand_power (schedule_of a) m x delivered)
+      (record {
+        prices = k.account.holds.prices;
+        nameplate = omega (arith, (nameplate_within a.terms k.account.holds.capacity).most);
+        carried_fits = at_most _ _ k.account.possible.carried;
+        delivered_fits = record { critical = omega (arith, d); onpeak = omega (arith, d); offpeak = omega (arith, d); discount = omega (arith, d) };
+        exported_fits = record { critical = omega (arith, r); onpeak = omega (arith, r); offpeak = omega (arith, r); discount = omega (arith, r) };
+        power_fits = omega (arith, power_within (schedule_of a) m x delivered k.delivered_readings);
+        standing_fits = k.account.possible.standing;
+      }))
 
-  -- The number and the answer, from the values that the calls before them gave.
-  pub number_found : (s : List ℕ) (t g : Tally) (fresh bad wrongdays : Bool) (faults : Faults) (n : ℕ)
-      → fresh ≡ is_fresh a.stage → bad ≡ unusable a
-      → s ≡ schedule_of a → t ≡ tally_of s m x delivered → g ≡ tally_of s m x received
+  -- The number and the bill, from the tallies of registers of the month's length.
+  pub number_found : (s : List ℕ) (t g : Tally) (d : Condition) (wrongdays : Bool) (faults : Faults)
+      → d ≡ condition_of a → s ≡ schedule_of a → Some t ≡ tally_of s m x delivered → Some g ≡ tally_of s m x received
       → wrongdays ≡ critical_refused m x → faults ≡ faults_from t g wrongdays
-      → n ≡ billing_row fresh bad a.next m faults → n ≡ billing_number a m delivered received x
-  number_found s t g fresh bad wrongdays faults n f u i j k o p e = rw (e, f, u, p, o, j, k, i) number_is
+      → billing_row d.fresh d.unusable a.next m faults ≡ billing_number a m delivered received x
+  unfolding billing_row billing_number
+  number_found s t g d wrongdays faults k i j l o p =
+      let (dl, dt) = tally_right s m x delivered t j in
+      let (rl, rt) = tally_right s m x received g l in
+      rw (k, p, o, dt, rt, dl, rl)
+
+  pub bill_found : (s : List ℕ) (t g : Tally) → s ≡ schedule_of a → Some t ≡ tally_of s m x delivered → Some g ≡ tally_of s m x received
+      → 0 ≡ billing_number a m delivered received x
+      → bill_or_none a.terms a.prices a.carried a.standing m t.sums g.sums t.power ≡ bill_of a m delivered received x
+  bill_found s t g i j l e =
+      rw ((tally_right s m x delivered t j).1, (tally_right s m x received g l).1, i) (bill_is (sym e))
 
   -- Rows 1, 3, 11 and 7 need no reading.
-  pub early_number : (fresh bad : Bool) (n : ℕ) → fresh ≡ is_fresh a.stage → bad ≡ unusable a
-      → n ≡ billing_row fresh bad a.next m no_faults → (n ≡ 0 → ⊥) → n ≡ billing_number a m delivered received x
+  pub early_number : (r : Refusal) (d : Condition) (f : Faults) → d ≡ condition_of a → NoFaults f
+      → number r ≡ billing_row d.fresh d.unusable a.next m f → number r ≡ billing_number a m delivered received x
   unfolding billing_row billing_number
-  early_number fresh bad n f u e z =
-      let k : n ≡ billing_row (is_fresh a.stage) (unusable a) a.next m no_faults = e ∙ rw (f, u) in
-      k ∙ by (is_fresh a.stage) (unusable a) (ltb last_month a.next) (not (eqb m a.next)) (λ q. z (k ∙ q))
+  early_number r d f k (e8, (e9, (e10, e13))) e =
+      by (is_fresh a.stage) (unusable a) (ltb last_month a.next) (not (eqb m a.next)) (e ∙ rw (k, e8, e9, e10, e13))
     where
-      by : (p q b c : Bool) → (first_of (row 1 p ∷ row 3 q ∷ row 11 b ∷ row 7 c ∷ row 8 false ∷ row 9 false ∷ row 10 false ∷ row 13 false ∷ []) ≡ 0 → ⊥)
-          → first_of (row 1 p ∷ row 3 q ∷ row 11 b ∷ row 7 c ∷ row 8 false ∷ row 9 false ∷ row 10 false ∷ row 13 false ∷ [])
+      by : (p q b c : Bool) → number r ≡ first_of (row 1 p ∷ row 3 q ∷ row 11 b ∷ row 7 c ∷ row 8 false ∷ row 9 false ∷ row 10 false ∷ row 13 false ∷ [])
+          → number r
           ≡ first_of (row 1 p ∷ row 3 q ∷ row 11 b ∷ row 7 c ∷ row 8 (length_refused m delivered || length_refused m received)
           ∷ row 9 (critical_refused m x) ∷ row 10 (reading_refused delivered || reading_refused received) ∷ row 13 (first_lost delivered || first_lost received) ∷ [])
-      by true q b c h = refl
-      by false true b c h = refl
-      by false false true c h = refl
-      by false false false true h = refl
-      by false false false false h = absurd (h refl)
+      by true q b c h = h
+      by false true b c h = h
+      by false false true c h = h
+      by false false false true h = h
+      by false false false false h = absurd (omega (arith, h, number_above r))
 
-  pub refused_reply : (n : ℕ) (b : Bill) → n ≡ billing_number a m delivered received x → (n ≡ 0 → ⊥) → b ≡ no_bill
-      → ◌≡◌ {A = BillingReply} (record { number = n; bill = b; account = a }) (billing_reply a m delivered received x)
-  unfolding billing_reply
-  refused_reply n b e z f = rw (f, ← e, ne_eqb n 0 z)
+  -- Where they don't apply, row 8 is next: it needs the tallies alone.
+  length_number : (d : Condition) (f : Faults) → d ≡ condition_of a → NoFaults f → 0 ≡ billing_row d.fresh d.unusable a.next m f
+      → (length_refused m delivered || length_refused m received) ≡ true → 8 ≡ billing_number a m delivered received x
+  unfolding billing_row billing_number
+  length_number d f k (e8, (e9, (e10, e13))) e h =
+      rw h (by (is_fresh a.stage) (unusable a) (ltb last_month a.next) (not (eqb m a.next)) (e ∙ rw (k, e8, e9, e10, e13)))
+    where
+      by : (p q b c : Bool) → 0 ≡ first_of (row 1 p ∷ row 3 q ∷ row 11 b ∷ row 7 c ∷ row 8 false ∷ row 9 false ∷ row 10 false ∷ row 13 false ∷ [])
+          → 8
+          ≡ first_of (row 1 p ∷ row 3 q ∷ row 11 b ∷ row 7 c ∷ row 8 true
+          ∷ row 9 (critical_refused m x) ∷ row 10 (reading_refused delivered || reading_refused received) ∷ row 13 (first_lost delivered || first_lost received) ∷ [])
+      by true q b c h = absurd (omega (arith, h))
+      by false true b c h = absurd (omega (arith, h))
+      by false false true c h = absurd (omega (arith, h))
+      by false false false true h = absurd (omega (arith, h))
+      by false false false false h = refl
 
-  pub accepted_reply : (s : List ℕ) (t g : Tally) (n : ℕ) → s ≡ schedule_of a → t ≡ tally_of s m x delivered → g ≡ tally_of s m x received
-      → n ≡ billing_number a m delivered received x → n ≡ 0 → reply_from a m t g ≡ billing_reply a m delivered received x
-  unfolding billing_reply reply_from
-  accepted_reply s t g n i j k e z =
-      let o : billing_number a m delivered received x ≡ 0 = sym e ∙ z in
-      rw (j, k, i, bill_is o, o)
+  pub delivered_number : (s : List ℕ) (d : Condition) (f : Faults) → d ≡ condition_of a → NoFaults f → 0 ≡ billing_row d.fresh d.unusable a.next m f
+      → None ≡ tally_of s m x delivered → 8 ≡ billing_number a m delivered received x
+  delivered_number s d f k n e h = length_number d f k n e (rw (tally_wrong s m x delivered h))
+
+  pub received_number : (s : List ℕ) (d : Condition) (f : Faults) → d ≡ condition_of a → NoFaults f → 0 ≡ billing_row d.fresh d.unusable a.next m f
+      → None ≡ tally_of s m x received → 8 ≡ billing_number a m delivered received x
+  received_number s d f k n e h = length_number d f k n e (rw (tally_wrong s m x received h) (or_true (length_refused m delivered)))

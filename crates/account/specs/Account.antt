@@ -10,9 +10,6 @@ use Rattle.tariff.specs.Tariff.{most_nameplates}
 use Rattle.account.specs.declared.Stage.TheVariants.{Fresh, Open, Closed}
 use Rattle.account.specs.declared.Account.{Account}
 use Rattle.account.specs.declared.ClosingAmounts.{ClosingAmounts}
-use Rattle.account.specs.declared.Reply.{Reply}
-use Rattle.account.specs.declared.BillingReply.{BillingReply}
-use Rattle.account.specs.declared.ClosingReply.{ClosingReply}
 use Rattle.account.specs.Refusals.{opening_number, repricing_number, billing_number, closing_number}
 use Rattle.billing.specs.Billing.{none, bill_from, no_bill}
 use Rattle.billing.specs.declared.Bill.{Bill}
@@ -108,14 +105,29 @@ closed a =
       standing = 0;
     }
 
+-- What the calls answer: a number in the table, 0 where accepted, what a billing or a closing returns, and the account after the call.
+pub record PlainReply : Type 0 where
+  pub number : ℕ
+  pub account : Account
+
+pub record BillingReply : Type 0 where
+  pub number : ℕ
+  pub bill : Bill
+  pub account : Account
+
+pub record ClosingReply : Type 0 where
+  pub number : ℕ
+  pub amounts : ClosingAmounts
+  pub account : Account
+
 -- The four calls: the number 0 with the amounts and the account after the call, or a refusal with "zeros in every amount, and the account
 -- as it came".
-unfoldable pub opening_reply : Account → Terms → PriceList → ℕ → Reply
+unfoldable pub opening_reply : Account → Terms → PriceList → ℕ → PlainReply
 opening_reply a t l m =
     let n : ℕ = opening_number a t l m in
     record { number = n; account = cond (eqb n 0) (opened t l m) a }
 
-unfoldable pub repricing_reply : Account → PriceList → Reply
+unfoldable pub repricing_reply : Account → PriceList → PlainReply
 repricing_reply a l =
     let n : ℕ = repricing_number a l in
     record { number = n; account = cond (eqb n 0) (repriced a l) a }

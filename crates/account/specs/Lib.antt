@@ -1,3 +1,4 @@
 pub mod Account
 pub mod Refusals
+pub mod Replies
 pub mod Tallies

@@ -2,23 +2,24 @@
 // with the answer; a refusal has its number, zeros in every amount, and the account as it came.
 #![tactic(auto)]
 
-ghost use Rattle.std.specs.Prelude.{◌≡◌, ◌||◌, ◌≤◌};
+ghost use Rattle.std.specs.Prelude.{◌≡◌, ◌≤◌, Err, IfOk};
 ghost use Rattle.calendar.specs.Calendar.{last_month};
-ghost use Rattle.account.specs.Refusals.{is_fresh, is_open, is_closed};
-ghost use Rattle.account.specs.Refusals.{cant_arise, unusable};
-ghost use Rattle.account.specs.Account.{fresh_account, after_bill, opening_reply, repricing_reply, billing_reply, closing_reply};
-ghost use Rattle.account.specs.Tallies.{faults_from, reply_from};
+ghost use Rattle.refusals.specs.Numbers.{number_of};
+ghost use Rattle.account.specs.Refusals.{contents_refused, cant_arise, unusable, billing_number};
+ghost use Rattle.account.specs.Account.{fresh_account, bill_of, after_bill, opening_reply, repricing_reply, billing_reply, closing_reply};
+ghost use Rattle.account.specs.Replies.{plain_reply, reply_with_bill, reply_with_amounts};
+ghost use Rattle.account.specs.Tallies.{condition_of, faults_from};
 
-use billing::Bill;
+use billing::{Balance, Bill, Metered};
 use hours::ByPeriod;
-use refusals::Faults;
+use refusals::{Condition, Faults, Refusal};
 use registers::Tally;
-use tariff::{Class, PriceList, Rider, Terms};
+use tariff::{Agreement, Class, PriceList, Rider, Terms};
 
 // The month after December 2099, which is next once that has been billed.
-const HIGHEST_NEXT: u32 = 1200;
+const HIGHEST_NEXT: u32 = calendar::LAST_MONTH + 1;
 
-#[derive(Clone, Copy)]
+#[derive(Clone, Copy, Debug, PartialEq, Eq)]
 pub enum Stage {
     Fresh,
     Open,
@@ -37,201 +38,47 @@ pub struct Account {
 }
 
 // What a closing returns: the Wh that it forfeits, by period, and the cents that it refunds.
-#[derive(Clone, Copy)]
+#[derive(Clone, Copy, Debug, Default, PartialEq, Eq)]
 pub struct ClosingAmounts {
     pub forfeited: ByPeriod,
     pub refunded: u64,
 }
 
-// The answer to an opening or a repricing.
+// The answer to a call, and the account after it: a refusal hands the account back as it came.
 #[derive(Clone, Copy)]
-pub struct Reply {
-    pub number: u32,
+pub struct Reply<T> {
+    pub answer: Result<T, Refusal>,
     pub account: Account,
 }
 
-#[derive(Clone, Copy)]
-pub struct BillingReply {
-    pub number: u32,
-    pub bill: Bill,
-    pub account: Account,
-}
-
-#[derive(Clone, Copy)]
-pub struct ClosingReply {
-    pub number: u32,
-    pub amounts: ClosingAmounts,
-    pub account: Account,
-}
-
-fn is_fresh(stage: Stage) -> bool
-    ensures { result ≡ is_fresh stage }
-{
-    match stage {
-        Stage::Fresh => true,
-        Stage::Open => false,
-        Stage::Closed => false,
+impl<T> Reply<T> {
+    // The number in the table, 0 where the call is accepted.
+    pub fn number(&self) -> u32
+        ensures { result ≡ number_of self.now.answer }
+    {
+        match self.answer {
+            Ok(_) => 0,
+            Err(refusal) => u32::from(refusal),
+        }
     }
 }
 
-fn is_open(stage: Stage) -> bool
-    ensures { result ≡ is_open stage }
-{
-    match stage {
-        Stage::Fresh => false,
-        Stage::Open => true,
-        Stage::Closed => false,
-    }
-}
-
-fn is_closed(stage: Stage) -> bool
-    ensures { result ≡ is_closed stage }
-{
-    match stage {
-        Stage::Fresh => false,
-        Stage::Open => false,
-        Stage::Closed => true,
-    }
-}
-
-// Whether an account can't arise.
-fn cant_arise(account: Account) -> bool
-    ensures { result ≡ cant_arise account }
-{
-    let carried = account.carried;
-    let stage = account.stage;
-    let terms = account.terms;
-    let prices = account.prices;
-    if billing::some_over(charges::CARRIED_LIMIT, carried) {
-        return true;
-    }
-    if charges::STANDING_LIMIT < account.standing {
-        return true;
-    }
-    if HIGHEST_NEXT < account.next {
-        return true;
-    }
-    if is_open(stage) {
-        return refusals::contents_row(terms, prices) != 0;
-    }
-    false
-}
-
-// Row 3 of the table.
-fn is_unusable(account: Account) -> bool
-    ensures { result ≡ unusable account }
-{
-    let stage = account.stage;
-    if is_closed(stage) {
-        return true;
-    }
-    cant_arise(account)
-}
-
-// Either of two.
-fn either(a: bool, b: bool) -> bool
-    ensures { result ≡ (a || b) }
-{
-    if a {
-        return true;
-    }
-    b
-}
-
-// What is wrong with a billing, from the tallies of its registers and whether its critical days are refused.
+// What is wrong with a billing, from the tallies of its registers, which have the month's length, and whether its critical days are refused.
 fn faults_of(delivered: Tally, received: Tally, wrongdays: bool) -> Faults
     ensures { result ≡ faults_from delivered received wrongdays }
 {
-    let wronglength = either(delivered.wronglength, received.wronglength);
-    let abovelimit = either(delivered.abovelimit, received.abovelimit);
-    let firstlost = either(delivered.firstlost, received.firstlost);
     Faults {
-        wronglength,
+        wronglength: false,
         wrongdays,
-        abovelimit,
-        firstlost,
+        abovelimit: delivered.abovelimit || received.abovelimit,
+        firstlost: delivered.firstlost || received.firstlost,
     }
 }
 
-// The account after an accepted bill.
-fn after_bill(account: Account, bill: Bill) -> Account
-    requires { account.next ≤ last_month }
-    ensures { result ≡ after_bill account bill }
-{
-    let stage = account.stage;
-    let terms = account.terms;
-    let prices = account.prices;
-    let left = bill.left;
-    let charges = bill.charges;
-    let next = account.next + 1;
-    Account {
-        stage,
-        terms,
-        prices,
-        next,
-        carried: left,
-        standing: charges.standing,
-    }
-}
-
-// The answer to an accepted billing.
-fn billed(account: Account, month: u32, delivered: Tally, received: Tally) -> BillingReply
-    requires { account.next ≤ last_month }
-    ensures { result ≡ reply_from account month delivered received }
-{
-    let terms = account.terms;
-    let prices = account.prices;
-    let carried = account.carried;
-    let taken = delivered.sums;
-    let given = received.sums;
-    let bill = billing::bill_from(
-        terms,
-        prices,
-        carried,
-        account.standing,
-        month,
-        taken,
-        given,
-        delivered.power,
-    );
-    BillingReply {
-        number: 0,
-        bill,
-        account: after_bill(account, bill),
-    }
-}
-
-// Bills a month from its readings. They are counted only where no row before theirs applies: `billing` asks those first.
-fn bill_readings(
-    account: Account,
-    month: u32,
-    delivered: &[u32],
-    received: &[u32],
-    critical_days: u32,
-) -> BillingReply
-    ensures { result ≡ billing_reply account month delivered.now received.now critical_days }
-{
-    let stage = account.stage;
-    let fresh = is_fresh(stage);
-    let unusable = is_unusable(account);
-    let schedule = hours::fixed_schedule();
-    let taken = registers::tally_of(&schedule, delivered, month, critical_days);
-    let given = registers::tally_of(&schedule, received, month, critical_days);
-    let wrongdays = hours::critical_refused(month, critical_days);
-    let faults = faults_of(taken, given, wrongdays);
-    let number = refusals::billing_row(fresh, unusable, account.next, month, faults);
-    if number != 0 {
-        return BillingReply {
-            number,
-            bill: billing::no_bill(),
-            account,
-        };
-    }
-    billed(account, month, taken, given)
-}
-
+// The calls take an account by value and hand it back in the reply, as a rule of the project asks.
 impl Account {
-    // The account that a list of calls starts from.
+    // The account that a list of calls starts from. Its zeros stand in full, as in the definition: derived defaults of terms and prices would name a rider
+    // and a class beside them.
     pub fn fresh() -> Account
         ensures { result ≡ fresh_account }
     {
@@ -246,12 +93,7 @@ impl Account {
                 assisted: false,
             },
             prices: PriceList {
-                energy: ByPeriod {
-                    critical: 0,
-                    onpeak: 0,
-                    offpeak: 0,
-                    discount: 0,
-                },
+                energy: ByPeriod::default(),
                 demand: 0,
                 standby: 0,
                 bypass: 0,
@@ -261,139 +103,178 @@ impl Account {
                 minimum: 0,
             },
             next: 0,
-            carried: ByPeriod {
-                critical: 0,
-                onpeak: 0,
-                offpeak: 0,
-                discount: 0,
-            },
+            carried: ByPeriod::default(),
             standing: 0,
         }
     }
 
-    // Opens a fresh account.
-    pub fn opening(self, terms: Terms, prices: PriceList, month: u32) -> Reply
-        ensures { result ≡ opening_reply self terms prices month }
+    // Whether the checks of an opening refuse what the account holds.
+    #[tactic(auto, using(refusals::proofs::Laws::contents_err), unfolding(crate::specs::Refusals::contents_refused))]
+    fn contents_refused(&self) -> bool
+        ensures { result ≡ contents_refused self.now.terms self.now.prices }
     {
-        let stage = self.stage;
-        let opened = is_open(stage);
-        let unusable = is_unusable(self);
-        let number = refusals::opening_row(opened, unusable, terms, prices, month);
-        if number != 0 {
-            return Reply {
-                number,
-                account: self,
-            };
+        refusals::contents_row(self.terms, self.prices).is_err()
+    }
+
+    // Whether the account can't arise.
+    #[tactic(auto, unfolding(crate::specs::Refusals::cant_arise))]
+    fn cant_arise(&self) -> bool
+        ensures { result ≡ cant_arise self.now }
+    {
+        billing::some_over(charges::CARRIED_LIMIT, self.carried)
+            || charges::STANDING_LIMIT < self.standing
+            || HIGHEST_NEXT < self.next
+            || (self.stage == Stage::Open && self.contents_refused())
+    }
+
+    // What the first rows of the table ask.
+    #[tactic(auto, unfolding(crate::specs::Refusals::unusable))]
+    fn condition(&self) -> Condition
+        ensures { result ≡ condition_of self.now }
+    {
+        Condition {
+            fresh: self.stage == Stage::Fresh,
+            opened: self.stage == Stage::Open,
+            unusable: self.stage == Stage::Closed || self.cant_arise(),
         }
-        let carried = billing::no_energy();
+    }
+
+    // The answer to a call that is refused.
+    fn refused<T>(self, refusal: Refusal) -> Reply<T>
+        ensures answer { result.answer ≡ Err refusal }
+        ensures account { result.account ≡ self }
+    {
         Reply {
-            number,
-            account: Account {
-                stage: Stage::Open,
-                terms,
-                prices,
-                next: month,
-                carried,
-                standing: 0,
+            answer: Err(refusal),
+            account: self,
+        }
+    }
+
+    // The account after an accepted bill.
+    fn after_bill(self, bill: Bill) -> Account
+        requires { self.next ≤ last_month }
+        ensures { result ≡ after_bill self bill }
+    {
+        Account {
+            next: self.next + 1,
+            carried: bill.left,
+            standing: bill.charges.standing,
+            ..self
+        }
+    }
+
+    // The bill of a month. Its readings are counted only where no row before theirs applies.
+    fn bill(
+        self,
+        month: u32,
+        delivered: &[u32],
+        received: &[u32],
+        critical_days: u32,
+    ) -> Result<Bill, Refusal>
+        ensures number { number_of result ≡ billing_number self month delivered.now received.now critical_days }
+        ensures bill { IfOk result (λ bill. bill ≡ bill_of self month delivered.now received.now critical_days) }
+    {
+        let condition = self.condition();
+        refusals::billing_row(condition, self.next, month, Faults::default())?;
+        let schedule = hours::fixed_schedule();
+        let taken = registers::tally_of(&schedule, delivered, month, critical_days).ok_or(
+            Refusal::RegisterLength,
+        )?;
+        let given = registers::tally_of(&schedule, received, month, critical_days).ok_or(
+            Refusal::RegisterLength,
+        )?;
+        let wrongdays = hours::critical_refused(month, critical_days);
+        let faults = faults_of(taken, given, wrongdays);
+        refusals::billing_row(condition, self.next, month, faults)?;
+        let agreement = Agreement {
+            terms: self.terms,
+            prices: self.prices,
+        };
+        let balance = Balance {
+            carried: self.carried,
+            standing: self.standing,
+        };
+        let metered = Metered {
+            month,
+            delivered: taken.sums,
+            exported: given.sums,
+            power: taken.power,
+        };
+        Ok(billing::bill_from(agreement, balance, metered))
+    }
+
+    // Opens a fresh account.
+    #[tactic(auto, using(refusals::proofs::Numbers::number_above), unfolding(crate::specs::Account::opening_reply, crate::specs::Refusals::opening_number))]
+    pub fn opening(self, terms: Terms, prices: PriceList, month: u32) -> Reply<()>
+        ensures { plain_reply result ≡ opening_reply self terms prices month }
+    {
+        match refusals::opening_row(self.condition(), terms, prices, month) {
+            Err(refusal) => self.refused(refusal),
+            Ok(()) => Reply {
+                answer: Ok(()),
+                account: Account {
+                    stage: Stage::Open,
+                    terms,
+                    prices,
+                    next: month,
+                    ..Account::fresh()
+                },
             },
         }
     }
 
     // Replaces the price list.
-    pub fn repricing(self, prices: PriceList) -> Reply
-        ensures { result ≡ repricing_reply self prices }
+    #[tactic(auto, using(refusals::proofs::Numbers::number_above), unfolding(crate::specs::Account::repricing_reply, crate::specs::Refusals::repricing_number))]
+    pub fn repricing(self, prices: PriceList) -> Reply<()>
+        ensures { plain_reply result ≡ repricing_reply self prices }
     {
-        let stage = self.stage;
-        let fresh = is_fresh(stage);
-        let unusable = is_unusable(self);
-        let number = refusals::repricing_row(fresh, unusable, prices);
-        if number != 0 {
-            return Reply {
-                number,
-                account: self,
-            };
-        }
-        let terms = self.terms;
-        let carried = self.carried;
-        Reply {
-            number,
-            account: Account {
-                stage,
-                terms,
-                prices,
-                next: self.next,
-                carried,
-                standing: self.standing,
+        match refusals::repricing_row(self.condition(), prices) {
+            Err(refusal) => self.refused(refusal),
+            Ok(()) => Reply {
+                answer: Ok(()),
+                account: Account { prices, ..self },
             },
         }
     }
 
     // Bills the next month from its two registers, which are only read.
+    #[tactic(auto, using(refusals::proofs::Numbers::number_above), unfolding(crate::specs::Account::billing_reply))]
     pub fn billing(
         self,
         month: u32,
         delivered: &[u32],
         received: &[u32],
         critical_days: u32,
-    ) -> BillingReply
-        ensures value { result ≡ billing_reply self month delivered.now received.now critical_days }
-        ensures delivered_value { delivered.now ≡ delivered.now }
-        ensures received_value { received.now ≡ received.now }
+    ) -> Reply<Bill>
+        ensures { reply_with_bill result ≡ billing_reply self month delivered.now received.now critical_days }
     {
-        let stage = self.stage;
-        let fresh = is_fresh(stage);
-        let unusable = is_unusable(self);
-        let none = Faults {
-            wronglength: false,
-            wrongdays: false,
-            abovelimit: false,
-            firstlost: false,
-        };
-        let early = refusals::billing_row(fresh, unusable, self.next, month, none);
-        if early != 0 {
-            return BillingReply {
-                number: early,
-                bill: billing::no_bill(),
-                account: self,
-            };
+        match self.bill(month, delivered, received, critical_days) {
+            Err(refusal) => self.refused(refusal),
+            Ok(bill) => Reply {
+                answer: Ok(bill),
+                account: self.after_bill(bill),
+            },
         }
-        bill_readings(self, month, delivered, received, critical_days)
     }
 
     // Forfeits what is carried, refunds what is standing, and closes the account.
-    pub fn closing(self) -> ClosingReply
-        ensures { result ≡ closing_reply self }
+    #[tactic(auto, using(refusals::proofs::Numbers::number_above), unfolding(crate::specs::Account::closing_reply, crate::specs::Refusals::closing_number))]
+    pub fn closing(self) -> Reply<ClosingAmounts>
+        ensures { reply_with_amounts result ≡ closing_reply self }
     {
-        let stage = self.stage;
-        let fresh = is_fresh(stage);
-        let unusable = is_unusable(self);
-        let number = refusals::closing_row(fresh, unusable);
-        if number != 0 {
-            return ClosingReply {
-                number,
-                amounts: ClosingAmounts {
-                    forfeited: billing::no_energy(),
-                    refunded: 0,
+        match refusals::closing_row(self.condition()) {
+            Err(refusal) => self.refused(refusal),
+            Ok(()) => Reply {
+                answer: Ok(ClosingAmounts {
+                    forfeited: self.carried,
+                    refunded: self.standing,
+                }),
+                account: Account {
+                    stage: Stage::Closed,
+                    carried: ByPeriod::default(),
+                    standing: 0,
+                    ..self
                 },
-                account: self,
-            };
-        }
-        let carried = self.carried;
-        let terms = self.terms;
-        let prices = self.prices;
-        ClosingReply {
-            number,
-            amounts: ClosingAmounts {
-                forfeited: carried,
-                refunded: self.standing,
-            },
-            account: Account {
-                stage: Stage::Closed,
-                terms,
-                prices,
-                next: self.next,
-                carried: billing::no_energy(),
-                standing: 0,
             },
         }
     }

@@ -106,3 +106,8 @@ module _ (m s : ℕ) (k : Clock) (change : Changes m s k) where
       (λ e. omega (arith, through_before n (omega arith), ap (λ (d : ℕ). day_length m d) e, that_day))
       (λ l. omega (arith, through_past n (omega arith), other_day (suc n) (omega arith)))
       (eq-or-lt_of_le h)
+
+-- Where the clocks change on no day, each has 96.
+pub through_unchanged : (m : ℕ) → Changes m 1 Unchanged → (n : ℕ) → readings_through m n ≡ 96 * n
+through_unchanged m change zero = through_before m 1 Unchanged change 0 (omega arith)
+through_unchanged m change (suc n) = omega (arith, through_past m 1 Unchanged change (suc n) (omega arith))

@@ -1,11 +1,12 @@
 -- Document 01, "Calendar and hours": months, their days, weekdays and seasons; and the readings that a register has of them, with 02 No. 1.
 -- m is a month, d a day of it (1 is the first) and j a reading of that day (0 is the first). Each definition is total: past what 01 speaks of it
 -- goes on by the same rule, and where a subtraction would go below 0 it gives 0, so that day 0 has the weekday of day 1.
-use Rattle.std.specs.Prelude.{◌≡◌, Bool, cond, not, ◌&&◌, ◌||◌, List, [], ◌∷◌, ℕ, zero, suc, ◌+◌, ◌-◌, ◌*◌, ◌/◌, ◌%◌, ◌≤◌, ◌<◌, eqb, ltb, leb, get_or}
+use Rattle.std.specs.Prelude.{◌≡◌, Bool, cond, not, ◌&&◌, ◌||◌, List, [], ◌∷◌, ℕ, zero, suc, ◌+◌, ◌-◌, ◌*◌, ◌/◌, ◌%◌, ◌≤◌, ◌<◌, eqb, ltb, leb, get_or, Option, Some, None}
 use Rattle.calendar.specs.declared.Season.{Season}
 use Rattle.calendar.specs.declared.Season.TheVariants.{Winter, Summer}
 use Rattle.calendar.specs.declared.DayKind.{DayKind}
 use Rattle.calendar.specs.declared.DayKind.TheVariants.{Weekday, Weekend}
+use Rattle.calendar.specs.declared.Change.{Change}
 use Rattle.calendar.specs.declared.Clock.{Clock}
 use Rattle.calendar.specs.declared.Clock.TheVariants.{Unchanged, Forward, Back}
 
@@ -78,6 +79,19 @@ pub record Changes (m s : ℕ) (k : Clock) : Type 0 where
   pub some : 1 ≤ s
   pub each : (d : ℕ) → clock_of m d ≡ cond (eqb d s) k Unchanged
   pub none : k ≡ Unchanged → s ≡ 1
+
+-- The day and what the clocks do on it, as `Changes` names them, of the change that a month has or hasn't.
+abbrev pub day_of : Option Change → ℕ
+day_of None = 1
+day_of (Some change) = change.day
+
+abbrev pub clock_by : Option Change → Clock
+clock_by None = Unchanged
+clock_by (Some change) = change.clock
+
+-- What the clocks do on day d of a month with that change, or with none.
+abbrev pub clock_on : Option Change → ℕ → Clock
+clock_on change d = cond (eqb d (day_of change)) (clock_by change) Unchanged
 
 -- "Each day has 96 quarter-hours", but of No. 1's two Sundays "Such a day has 92 or 100 quarters".
 abbrev pub length_by : Clock → ℕ

@@ -3,24 +3,25 @@
 // 2099 follow the same rules.
 #![tactic(auto)]
 
-ghost use Rattle.std.specs.Prelude.{◌≡◌, cond, eqb};
+ghost use Rattle.std.specs.Prelude.{◌≡◌, ◌≢◌, IfSome};
 ghost use Rattle.calendar.specs.Calendar.{year_of, month_of_year, is_leap, leap_day, days_in, first_weekday, weekday_of, day_kind_of, season_of};
-ghost use Rattle.calendar.specs.Calendar.{Changes, length_by, day_length, quarter_by, readings_through, month_length};
+ghost use Rattle.calendar.specs.Calendar.{Changes, day_of, clock_by, clock_on, length_by, day_length, quarter_by, readings_through, month_length};
+ghost use Rattle.calendar.specs.declared.Clock.TheVariants.{Unchanged};
 
-#[derive(Clone, Copy)]
+#[derive(Clone, Copy, PartialEq, Eq, Debug)]
 pub enum Season {
     Winter,
     Summer,
 }
 
-#[derive(Clone, Copy)]
+#[derive(Clone, Copy, PartialEq, Eq, Debug)]
 pub enum DayKind {
     Weekday,
     Weekend,
 }
 
 // What the clocks do on a day: on one in March they are put forward from 02:00 to 03:00, on one in November back from 02:00 to 01:00.
-#[derive(Clone, Copy)]
+#[derive(Clone, Copy, PartialEq, Eq, Debug)]
 pub enum Clock {
     Unchanged,
     Forward,
@@ -28,7 +29,7 @@ pub enum Clock {
 }
 
 // A day of a month, and what the clocks do on it; on all others they do nothing.
-#[derive(Clone, Copy)]
+#[derive(Clone, Copy, PartialEq, Eq, Debug)]
 pub struct Change {
     pub day: u32,
     pub clock: Clock,
@@ -36,6 +37,17 @@ pub struct Change {
 
 // The days of January to December in a common year.
 const COMMON_DAYS: [u32; 12] = [31, 28, 31, 30, 31, 30, 31, 31, 30, 31, 30, 31];
+
+// Months of the year.
+const FEBRUARY: u32 = 2;
+
+const MARCH: u32 = 3;
+
+const JULY: u32 = 7;
+
+const SEPTEMBER: u32 = 9;
+
+const NOVEMBER: u32 = 11;
 
 // December 2099.
 pub const LAST_MONTH: u32 = 1199;
@@ -70,34 +82,26 @@ pub fn month_of_year(month: u32) -> u32
 }
 
 // Whether a year is a leap year of the Gregorian calendar.
+#[tactic(auto, unfolding(crate::specs::Calendar::is_leap))]
 fn is_leap(year: u32) -> bool
     ensures { result ≡ is_leap year }
 {
-    if year % 4 != 0 {
-        return false;
-    }
-    if year % 100 != 0 {
-        return true;
-    }
-    year % 400 == 0
+    year % 4 == 0 && (year % 100 != 0 || year % 400 == 0)
 }
 
 // 1 in February of a leap year, else 0.
+#[tactic(auto, unfolding(crate::specs::Calendar::leap_day))]
 fn leap_day(month: u32) -> u32
     ensures { result ≡ leap_day month }
 {
-    if month_of_year(month) != 2 {
-        return 0;
-    }
-    if is_leap(year(month)) { 1 } else { 0 }
+    u32::from(month_of_year(month) == FEBRUARY && is_leap(year(month)))
 }
 
 // The days of a month.
 pub fn days_in(month: u32) -> u32
     ensures { result ≡ days_in month }
 {
-    let place = (month % 12) as usize;
-    COMMON_DAYS[place] + leap_day(month)
+    COMMON_DAYS[(month % 12) as usize] + leap_day(month)
 }
 
 // The weekday of a month's first day: 0 is Monday, 6 Sunday. Days are counted from 1 March 1999, a Monday, so that a leap
@@ -105,9 +109,9 @@ pub fn days_in(month: u32) -> u32
 pub fn first_weekday(month: u32) -> u32
     ensures { result ≡ first_weekday month }
 {
-    let months = month as u64 + 10;
+    let months = u64::from(month) + 10;
     let years = months / 12;
-    let leap_days = (years + 3) / 4 + (years + 399) / 400 - (years + 99) / 100;
+    let leap_days = years.div_ceil(4) + years.div_ceil(400) - years.div_ceil(100);
     let days = 365 * years + leap_days + (153 * (months % 12) + 2) / 5;
     (days % 7) as u32
 }
@@ -116,14 +120,11 @@ pub fn first_weekday(month: u32) -> u32
 fn weekday_of(month: u32, day: u32) -> u32
     ensures { result ≡ weekday_of month day }
 {
-    let first = first_weekday(month);
-    if day == 0 {
-        return first;
-    }
-    (first + (day - 1) % 7) % 7
+    (first_weekday(month) + day.saturating_sub(1) % 7) % 7
 }
 
 // Monday to Friday, or the weekend.
+#[tactic(auto, unfolding(crate::specs::Calendar::day_kind_of))]
 pub fn day_kind_of(month: u32, day: u32) -> DayKind
     ensures { result ≡ day_kind_of month day }
 {
@@ -135,57 +136,47 @@ pub fn day_kind_of(month: u32, day: u32) -> DayKind
 }
 
 // Summer from July to September, else winter.
+#[tactic(auto, unfolding(crate::specs::Calendar::season_of))]
 pub fn season_of(month: u32) -> Season
     ensures { result ≡ season_of month }
 {
-    let of_year = month_of_year(month);
-    if of_year < 7 {
-        return Season::Winter;
+    if (JULY..=SEPTEMBER).contains(&month_of_year(month)) {
+        Season::Summer
+    } else {
+        Season::Winter
     }
-    if 9 < of_year {
-        return Season::Winter;
-    }
-    Season::Summer
 }
 
-// The day of a month on which the clocks change, and how. In a month in which they don't, nothing happens on its first day.
-pub fn change_of(month: u32) -> Change
-    ensures { Changes month result.day result.clock }
+// The day of a month on which the clocks change, and how; none in a month in which they don't.
+pub fn change_of(month: u32) -> Option<Change>
+    ensures day { Changes month (day_of result) (clock_by result) }
+    ensures none { IfSome result (λ change. change.clock ≢ Unchanged) }
 {
     if year(month) < FIRST_YEAR {
-        return Change {
-            day: 1,
-            clock: Clock::Unchanged,
-        };
+        return None;
     }
-    let of_year = month_of_year(month);
     let first = first_weekday(month);
-    if of_year == 3 {
-        return Change {
+    match month_of_year(month) {
+        MARCH => Some(Change {
             day: 14 - first,
             clock: Clock::Forward,
-        };
-    }
-    if of_year == 11 {
-        return Change {
+        }),
+        NOVEMBER => Some(Change {
             day: 7 - first,
             clock: Clock::Back,
-        };
-    }
-    Change {
-        day: 1,
-        clock: Clock::Unchanged,
+        }),
+        _ => None,
     }
 }
 
-// What the clocks do on a day of a month with that change.
-pub fn clock_on(change: Change, day: u32) -> Clock
-    ensures { result ≡ cond (eqb day change.day) change.clock Clock.Unchanged }
+// What the clocks do on a day of a month with that change, or with none.
+pub fn clock_on(change: Option<Change>, day: u32) -> Clock
+    ensures { result ≡ clock_on change day }
 {
-    if day == change.day {
-        return change.clock;
+    match change {
+        Some(change) if day == change.day => change.clock,
+        _ => Clock::Unchanged,
     }
-    Clock::Unchanged
 }
 
 // The readings of a day, by what the clocks do on it.
@@ -207,26 +198,15 @@ pub fn day_length(month: u32, day: u32) -> usize
 }
 
 // The quarter-hour that a reading stands for, by its place in a day, 0 being the first. A place has 32 bits so that an hour more always has room.
+#[tactic(auto, unfolding(crate::specs::Calendar::quarter_by))]
 pub fn quarter_by(clock: Clock, place: u32) -> usize
     ensures { result ≡ quarter_by clock place }
 {
     let quarter = place as usize;
     match clock {
-        Clock::Unchanged => quarter,
-        Clock::Forward => {
-            if quarter < CHANGE_QUARTER {
-                quarter
-            } else {
-                quarter + HOUR
-            }
-        }
-        Clock::Back => {
-            if CHANGE_QUARTER <= quarter {
-                quarter - HOUR
-            } else {
-                quarter
-            }
-        }
+        Clock::Forward if CHANGE_QUARTER <= quarter => quarter + HOUR,
+        Clock::Back if CHANGE_QUARTER <= quarter => quarter - HOUR,
+        _ => quarter,
     }
 }
 
@@ -234,15 +214,16 @@ pub fn quarter_by(clock: Clock, place: u32) -> usize
 pub fn readings_through(month: u32, days: u32) -> usize
     ensures { result ≡ readings_through month days }
 {
-    let change = change_of(month);
-    if days < change.day {
-        return DAY_QUARTERS * days as usize;
+    match change_of(month) {
+        Some(change) if change.day <= days => {
+            DAY_QUARTERS * (days - 1) as usize + length_by(change.clock)
+        }
+        _ => DAY_QUARTERS * days as usize,
     }
-    let clock = change.clock;
-    DAY_QUARTERS * (days - 1) as usize + length_by(clock)
 }
 
 // The readings of a month.
+#[tactic(auto, unfolding(crate::specs::Calendar::month_length))]
 pub fn month_length(month: u32) -> usize
     ensures { result ≡ month_length month }
 {

@@ -1,36 +1,40 @@
 -- Whether a line begins with a text, byte after byte.
-use mathlib.Core.Path.{◌≡◌, refl, sym, ap}
-use mathlib.Core.Bool.{Bool, true, false, false≢true, ◌&&◌}
+use mathlib.Core.Path.{◌≡◌, refl, sym, ◌∙◌}
+use mathlib.Core.Bool.{Bool, true, false, false≢true, ◌&&◌, and-false}
 use mathlib.Core.List.{List, [], ◌∷◌}
-use Prim.Native.Nat.{ℕ, zero, suc, ◌+◌, ◌-◌, ◌≤◌, ◌<◌}
-use native.Mathlib.Numerals.{add-one}
+use Prim.Native.Nat.{ℕ, suc, ◌≤◌, ◌<◌}
 use native.Mathlib.Omega.{arith}
-use borrow.Author.Tests.{eq-eqb, ne_eqb}
-use lib.Dec.{eqb, lit≤}
-use lib.ListN.{length, get_or, take, drop, drop_of_length-le, get_or-eq_default}
-use lib.Seq.{drop-cons}
-use Rattle.text.specs.Text.{bytes_of}
-use Rattle.numerals.specs.Numerals.{number_in}
-use Rattle.text.proofs.Lists.{rest_is}
-use Rattle.grammar.specs.Grammar.{begins_with, keyed, opening_lines, opening_line}
-use Rattle.grammar.specs.Kinds.{values, value_in}
+use borrow.Author.Tests.{eq-eqb, ne_eqb, eqb-true}
+use lib.Dec.{eqb, eqb-suc-suc}
+use lib.ListN.{length, take, drop, get_or-eq_default}
+use Rattle.std.specs.Cmp.Lexicographic.{pointwise}
+use Rattle.grammar.specs.Grammar.{begins_with, is_text, keyed, opening_lines, opening_line}
 
-module _ (i : ℕ) (text line : List ℕ) where
-  -- The bytes at a place agree, so the rest decides; or they don't.
-  pub begins_next : i < length text → i < length line → get_or line i 0 ≡ get_or text i 0
-      → begins_with (drop i text) (drop i line) ≡ begins_with (drop (i + 1) text) (drop (i + 1) line)
-  unfolding begins_with
-  begins_next h k e = rw (drop-cons text i 0 h, drop-cons line i 0 k, add-one i) (simp (eq-eqb _ _ (sym e)))
+-- It is what std asks for.
+eqb_swap : (a b : ℕ) → eqb a b ≡ eqb b a
+eqb_swap a b = by (eqb a b) refl
+  where
+    by : (t : Bool) → eqb a b ≡ t → t ≡ eqb b a
+    by true e = sym (eq-eqb b a (sym (eqb-true a b e)))
+    by false e = sym (ne_eqb b a (λ f. false≢true (sym e ∙ eq-eqb a b (sym f))))
 
-  pub begins_not : i < length text → i < length line → (get_or line i 0 ≡ get_or text i 0 → ⊥)
-      → begins_with (drop i text) (drop i line) ≡ false
-  unfolding begins_with
-  begins_not h k e = rw (drop-cons text i 0 h, drop-cons line i 0 k) (simp (ne_eqb _ _ (λ f. e (sym f))))
+pub begins_is : (text line : List ℕ) → begins_with text line ≡ pointwise eqb (take (length text) line) text
+unfolding begins_with
+begins_is [] line = refl
+begins_is (b ∷ text) [] = refl
+begins_is (b ∷ text) (x ∷ line) = rw (begins_is text line, eqb_swap b x)
 
-  -- Nothing of the text is left.
-  pub begins_end : length text ≤ i → begins_with (drop i text) (drop i line) ≡ true
-  unfolding begins_with
-  begins_end h = rw (drop_of_length-le text h)
+pub text_is : (text line : List ℕ) → is_text text line ≡ pointwise eqb line text
+unfolding is_text begins_with
+text_is [] [] = refl
+text_is [] (x ∷ line) = rw (ne_eqb (suc (length line)) 0 (λ e. omega arith))
+text_is (b ∷ text) [] = and-false (eqb 0 (suc (length text)))
+text_is (b ∷ text) (x ∷ line) = rw (eqb_swap x b, eqb-suc-suc (length line) (length text)) (by (eqb b x) (text_is text line))
+  where
+    by : (t : Bool) → (eqb (length line) (length text) && begins_with text line) ≡ pointwise eqb line text
+        → (eqb (length line) (length text) && (t && begins_with text line)) ≡ (t && pointwise eqb line text)
+    by true e = e
+    by false e = and-false (eqb (length line) (length text))
 
 -- A line that begins with a text isn't shorter.
 pub begins_long : (text line : List ℕ) → begins_with text line ≡ true → length text ≤ length line
@@ -53,9 +57,9 @@ begins_short text line h = by (begins_with text line) refl
 
 -- What is read after a key.
 module _ (key : List ℕ) (read : List ℕ → List ℕ) (l : List ℕ) where
-  pub keyed_yes : begins_with key l ≡ true → keyed key read l ≡ read (take (length l - length key) (drop (length key) l))
+  pub keyed_yes : begins_with key l ≡ true → keyed key read l ≡ read (drop (length key) l)
   unfolding keyed
-  keyed_yes e = rw (e, rest_is (length key) l)
+  keyed_yes e = rw e
 
   pub keyed_no : begins_with key l ≡ false → keyed key read l ≡ []
   unfolding keyed
@@ -65,58 +69,3 @@ module _ (key : List ℕ) (read : List ℕ → List ℕ) (l : List ℕ) where
 pub opening_past : (k : ℕ) (l : List ℕ) → 14 ≤ k → opening_line k l ≡ []
 unfolding opening_line
 opening_past k l h = rw (get_or-eq_default opening_lines (λ l. []) h)
-
--- The keys one after the other, where each begins and what stands after it: the tables of the code.
-abbrev keys : List ℕ
-keys = bytes_of "opens=rider=class=nameplate=limit=assisted=prices=demand=standby=bypass=credit=distribution=basic=minimum="
-
-abbrev begins : List ℕ
-begins = 0 ∷ 6 ∷ 12 ∷ 18 ∷ 28 ∷ 34 ∷ 43 ∷ 50 ∷ 57 ∷ 65 ∷ 72 ∷ 79 ∷ 92 ∷ 98 ∷ 106 ∷ []
-
-abbrev kinds : List ℕ
-kinds = 0 ∷ 1 ∷ 2 ∷ 6 ∷ 7 ∷ 3 ∷ 4 ∷ 7 ∷ 7 ∷ 7 ∷ 7 ∷ 7 ∷ 7 ∷ 7 ∷ []
-
--- Each key is among them, and the line is read by it.
-pub key_within : (k : ℕ) → k < 14 → (get_or begins k 0 ≤ get_or begins (k + 1) 0) × (get_or begins (k + 1) 0 ≤ 106)
-key_within zero h = (lit≤ tt, lit≤ tt)
-key_within (suc zero) h = (lit≤ tt, lit≤ tt)
-key_within (suc (suc zero)) h = (lit≤ tt, lit≤ tt)
-key_within (suc (suc (suc zero))) h = (lit≤ tt, lit≤ tt)
-key_within (suc (suc (suc (suc zero)))) h = (lit≤ tt, lit≤ tt)
-key_within (suc (suc (suc (suc (suc zero))))) h = (lit≤ tt, lit≤ tt)
-key_within (suc (suc (suc (suc (suc (suc zero)))))) h = (lit≤ tt, lit≤ tt)
-key_within (suc (suc (suc (suc (suc (suc (suc zero))))))) h = (lit≤ tt, lit≤ tt)
-key_within (suc (suc (suc (suc (suc (suc (suc (suc zero)))))))) h = (lit≤ tt, lit≤ tt)
-key_within (suc (suc (suc (suc (suc (suc (suc (suc (suc zero))))))))) h = (lit≤ tt, lit≤ tt)
-key_within (suc (suc (suc (suc (suc (suc (suc (suc (suc (suc zero)))))))))) h = (lit≤ tt, lit≤ tt)
-key_within (suc (suc (suc (suc (suc (suc (suc (suc (suc (suc (suc zero))))))))))) h = (lit≤ tt, lit≤ tt)
-key_within (suc (suc (suc (suc (suc (suc (suc (suc (suc (suc (suc (suc zero)))))))))))) h = (lit≤ tt, lit≤ tt)
-key_within (suc (suc (suc (suc (suc (suc (suc (suc (suc (suc (suc (suc (suc zero))))))))))))) h = (lit≤ tt, lit≤ tt)
-key_within (suc (suc (suc (suc (suc (suc (suc (suc (suc (suc (suc (suc (suc (suc k)))))))))))))) h = absurd (omega arith)
-
-pub opening_at : (k : ℕ) (l : List ℕ) → k < 14
-    → keyed (take (get_or begins (k + 1) 0 - get_or begins k 0) (drop (get_or begins k 0) keys)) (value_in (get_or kinds k 0)) l ≡ opening_line k l
-unfolding opening_line
-opening_at zero l h = refl
-opening_at (suc zero) l h = refl
-opening_at (suc (suc zero)) l h = refl
-opening_at (suc (suc (suc zero))) l h = refl
-opening_at (suc (suc (suc (suc zero)))) l h = refl
-opening_at (suc (suc (suc (suc (suc zero))))) l h = refl
-opening_at (suc (suc (suc (suc (suc (suc zero)))))) l h = refl
-opening_at (suc (suc (suc (suc (suc (suc (suc zero))))))) l h = refl
-opening_at (suc (suc (suc (suc (suc (suc (suc (suc zero)))))))) l h = refl
-opening_at (suc (suc (suc (suc (suc (suc (suc (suc (suc zero))))))))) l h = refl
-opening_at (suc (suc (suc (suc (suc (suc (suc (suc (suc (suc zero)))))))))) l h = refl
-opening_at (suc (suc (suc (suc (suc (suc (suc (suc (suc (suc (suc zero))))))))))) l h = refl
-opening_at (suc (suc (suc (suc (suc (suc (suc (suc (suc (suc (suc (suc zero)))))))))))) l h = refl
-opening_at (suc (suc (suc (suc (suc (suc (suc (suc (suc (suc (suc (suc (suc zero))))))))))))) l h = refl
-opening_at (suc (suc (suc (suc (suc (suc (suc (suc (suc (suc (suc (suc (suc (suc k)))))))))))))) l h = absurd (omega arith)
-
--- Past the other kinds there is a number.
-pub value_number : (k : ℕ) (l : List ℕ) → 7 ≤ k → value_in k l ≡ number_in l
-value_number k l h = ap (λ (read : List ℕ → List ℕ). read l) (get_or-eq_default values number_in h)
-
--- A kind that isn't kind n comes after it.
-pub next : {k : ℕ} (n : ℕ) → n ≤ k → (k ≡ n → ⊥) → n + 1 ≤ k
-next n h e = omega arith

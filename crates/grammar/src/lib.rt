@@ -1,167 +1,136 @@
 // The lines that `statement` reads: what each gives in numbers, or none where it is unreadable.
 #![tactic(auto)]
 
-ghost use Rattle.std.specs.Prelude.{◌≡◌};
-ghost use Rattle.numerals.specs.Reading.{numbers_as};
-ghost use Rattle.grammar.specs.Grammar.{begins_with, is_text, choice_in, keyed};
+ghost use Rattle.std.specs.Prelude.{◌≡◌, ◌<◌, [], ◌∷◌, length, drop, IfSome, is_some, option_to_list, unwrap_or};
+ghost use Rattle.arrayvec.specs.ArrayVec.{array_vec_len};
+ghost use Rattle.numerals.specs.Reading.{items_of};
+ghost use Rattle.grammar.specs.Grammar.{begins_with, choice_in, keyed};
 ghost use Rattle.grammar.specs.Kinds.{value_in};
 ghost use Rattle.grammar.specs.Grammar.{opening_line, bill_line, critical_line, run_line};
 
-use numerals::{NO_NUMBER, Numbers};
+use arrayvec::ArrayVec;
 
-// The kinds of what can stand after a key: a month, one of two words, several numbers or one.
-const MONTH: u32 = 0;
+// The most numbers of a line: the nameplates.
+pub const MOST_NUMBERS: usize = 8;
 
-const RIDER: u32 = 1;
-
-const CLASS: u32 = 2;
-
-const ASSISTED: u32 = 3;
-
-const PRICES: u32 = 4;
-
-const RUN: u32 = 5;
-
-const NAMEPLATES: u32 = 6;
-
-const NUMBER: u32 = 7;
-
-// The lines that open the account.
-const LINES: u32 = 14;
-
-// Where the key of each begins among the keys, and the last ends.
-const BEGINS: [usize; 15] = [0, 6, 12, 18, 28, 34, 43, 50, 57, 65, 72, 79, 92, 98, 106];
-
-// What stands after each key.
-const KINDS: [u32; 14] = [
-    MONTH, RIDER, CLASS, NAMEPLATES, NUMBER, ASSISTED, PRICES, NUMBER, NUMBER, NUMBER, NUMBER,
-    NUMBER, NUMBER, NUMBER,
-];
-
-// What the first of two words gives, and the second.
-const FIRST_WORD: Numbers = Numbers {
-    count: 1,
-    first: 0,
-    second: 0,
-    third: 0,
-    fourth: 0,
-    fifth: 0,
-    sixth: 0,
-    seventh: 0,
-    eighth: 0,
-};
-
-const SECOND_WORD: Numbers = Numbers {
-    count: 1,
-    first: 1,
-    second: 0,
-    third: 0,
-    fourth: 0,
-    fifth: 0,
-    sixth: 0,
-    seventh: 0,
-    eighth: 0,
-};
-
-// Whether a line begins with a text.
-pub fn begins_with(line: &[u8], text: &[u8]) -> bool
-    ensures { result ≡ begins_with text.now line.now }
-{
-    if line.len() < text.len() {
-        return false;
-    }
-    let mut place = 0;
-    while place < text.len() {
-        if line[place] != text[place] {
-            return false;
-        }
-        place += 1;
-    }
-    true
+// What can stand after a key of the opening: a month, one of two words, several numbers or one.
+#[derive(Clone, Copy)]
+enum Value {
+    Month,
+    Rider,
+    Class,
+    Nameplates,
+    Number,
+    Assisted,
+    Prices,
 }
 
-// Whether a line is a text.
-fn is_text(line: &[u8], text: &[u8]) -> bool
-    ensures { result ≡ is_text text.now line.now }
+// What stands after a key, if a line begins with it.
+#[tactic(auto, using(crate::proofs::Texts::begins_is))]
+pub fn after_key<'a>(line: &'a [u8], key: &[u8]) -> Option<&'a [u8]>
+    ensures begins { is_some result ≡ begins_with key.now line.now }
+    ensures rest { IfSome result (λ rest. rest.now ≡ drop (length key.now) line.now) }
 {
-    if line.len() != text.len() {
-        return false;
-    }
-    begins_with(line, text)
+    line.strip_prefix(key)
 }
 
 // One of two words.
-fn choice_in(text: &[u8], first: &[u8], second: &[u8]) -> Numbers
-    ensures { result ≡ numbers_as (choice_in first.now second.now text.now) }
+#[tactic(auto, using(crate::proofs::Texts::text_is), unfolding(crate::specs::Grammar::choice_in))]
+fn choice_in(text: &[u8], first: &[u8], second: &[u8]) -> Option<u32>
+    ensures { option_to_list result ≡ choice_in first.now second.now text.now }
 {
-    if is_text(text, first) {
-        return FIRST_WORD;
+    if text == first {
+        Some(0)
+    } else if text == second {
+        Some(1)
+    } else {
+        None
     }
-    if is_text(text, second) {
-        return SECOND_WORD;
-    }
-    NO_NUMBER
 }
 
-// What stands after a key.
-fn value_in(text: &[u8], kind: u32) -> Numbers
-    ensures { result ≡ numbers_as (value_in kind text.now) }
+// One number among several.
+fn alone(number: u32) -> ArrayVec<u32, MOST_NUMBERS>
+    ensures { result.items ≡ number ∷ [] }
 {
-    match kind {
-        MONTH => numerals::month_in(text),
-        RIDER => choice_in(text, b"banked", b"bridge"),
-        CLASS => choice_in(text, b"home", b"business"),
-        ASSISTED => choice_in(text, b"no", b"yes"),
-        PRICES => numerals::numbers_in(text, 4),
-        RUN => numerals::numbers_in(text, 3),
-        NAMEPLATES => numerals::numbers_up_to(text, 8),
-        _ => numerals::number_in(text),
+    let mut numbers = ArrayVec::new();
+    numbers.push(number);
+    numbers
+}
+
+impl Value {
+    // What a text gives as such a value.
+    fn read(self, text: &[u8]) -> Option<ArrayVec<u32, MOST_NUMBERS>>
+        ensures value { items_of result ≡ value_in self text.now }
+        ensures some { IfSome result (λ numbers. 0 < array_vec_len numbers) }
+    {
+        match self {
+            Value::Month => numerals::month_in(text).map(alone),
+            Value::Rider => choice_in(text, b"banked", b"bridge").map(alone),
+            Value::Class => choice_in(text, b"home", b"business").map(alone),
+            Value::Nameplates => numerals::numbers_up_to(text),
+            Value::Number => numerals::number_in(text).map(alone),
+            Value::Assisted => choice_in(text, b"no", b"yes").map(alone),
+            Value::Prices => ArrayVec::try_from(numerals::numbers_in::<4>(text)?.as_slice()).ok(),
+        }
     }
 }
 
 // A line with a value after its key.
-fn keyed_value(line: &[u8], key: &[u8], kind: u32) -> Numbers
-    ensures { result ≡ numbers_as (keyed key.now (value_in kind) line.now) }
+#[tactic(auto, unfolding(crate::specs::Grammar::keyed))]
+fn keyed(line: &[u8], key: &[u8], value: Value) -> Option<ArrayVec<u32, MOST_NUMBERS>>
+    ensures value { items_of result ≡ keyed key.now (value_in value) line.now }
+    ensures some { IfSome result (λ numbers. 0 < array_vec_len numbers) }
 {
-    if begins_with(line, key) {
-        let start = key.len();
-        return value_in(&line[start..], kind);
-    }
-    NO_NUMBER
+    value.read(after_key(line, key)?)
 }
 
 // Line k + 1 of the fourteen that open the account.
-pub fn opening_line(k: u32, line: &[u8]) -> Numbers
-    ensures { result ≡ numbers_as (opening_line k line.now) }
+#[tactic(auto, unfolding(crate::specs::Grammar::opening_line))]
+pub fn opening_line(k: u32, line: &[u8]) -> Option<ArrayVec<u32, MOST_NUMBERS>>
+    ensures value { items_of result ≡ opening_line k line.now }
+    ensures some { IfSome result (λ numbers. 0 < array_vec_len numbers) }
 {
-    if LINES <= k {
-        return NO_NUMBER;
+    match k {
+        0 => keyed(line, b"opens=", Value::Month),
+        1 => keyed(line, b"rider=", Value::Rider),
+        2 => keyed(line, b"class=", Value::Class),
+        3 => keyed(line, b"nameplate=", Value::Nameplates),
+        4 => keyed(line, b"limit=", Value::Number),
+        5 => keyed(line, b"assisted=", Value::Assisted),
+        6 => keyed(line, b"prices=", Value::Prices),
+        7 => keyed(line, b"demand=", Value::Number),
+        8 => keyed(line, b"standby=", Value::Number),
+        9 => keyed(line, b"bypass=", Value::Number),
+        10 => keyed(line, b"credit=", Value::Number),
+        11 => keyed(line, b"distribution=", Value::Number),
+        12 => keyed(line, b"basic=", Value::Number),
+        13 => keyed(line, b"minimum=", Value::Number),
+        _ => None,
     }
-    let keys =
-        *b"opens=rider=class=nameplate=limit=assisted=prices=demand=standby=bypass=credit=distribution=basic=minimum=";
-    let at = k as usize;
-    let begin = BEGINS[at];
-    let end = BEGINS[at + 1];
-    keyed_value(line, &keys[begin..end], KINDS[at])
 }
 
 // The first line of a month.
-pub fn bill_line(line: &[u8]) -> Numbers
-    ensures { result ≡ numbers_as (bill_line line.now) }
+#[tactic(auto, unfolding(crate::specs::Grammar::bill_line, crate::specs::Grammar::keyed))]
+pub fn bill_line(line: &[u8]) -> Option<u32>
+    ensures { option_to_list result ≡ bill_line line.now }
 {
-    keyed_value(line, b"bill=", MONTH)
+    numerals::month_in(after_key(line, b"bill=")?)
 }
 
 // The second line of a month.
-pub fn critical_line(line: &[u8]) -> Numbers
-    ensures { result ≡ numbers_as (critical_line line.now) }
+#[tactic(auto, unfolding(crate::specs::Grammar::critical_line, crate::specs::Grammar::keyed))]
+pub fn critical_line(line: &[u8]) -> Option<u32>
+    ensures { option_to_list result ≡ critical_line line.now }
 {
-    keyed_value(line, b"critical=", NUMBER)
+    numerals::number_in(after_key(line, b"critical=")?)
 }
 
 // A run of equal readings.
-pub fn run_line(line: &[u8]) -> Numbers
-    ensures { result ≡ numbers_as (run_line line.now) }
+#[tactic(auto, unfolding(crate::specs::Grammar::run_line, crate::specs::Grammar::keyed))]
+pub fn run_line(line: &[u8]) -> Option<[u32; 3]>
+    ensures { unwrap_or result [] ≡ run_line line.now }
 {
-    keyed_value(line, b"run=", RUN)
+    numerals::numbers_in(after_key(line, b"run=")?)?
+        .into_inner()
+        .ok()
 }

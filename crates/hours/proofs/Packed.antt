@@ -7,24 +7,20 @@ use native.Mathlib.Nat.{add-zero, add-suc, suc-add, pow-succ', pow-le-pow_right}
 use native.Mathlib.Omega.{arith}
 use borrow.Author.Tests.{leb-true, eqb-true, not-false}
 use lib.Dec.{eqb, leb}
-use lib.ListN.{length, get_or, take, drop}
+use lib.ListN.{length, get_or, take}
 use lib.Pow.{shr-shr}
-use lib.Seq.{take-suc, take_all, drop-cons}
+use lib.Seq.{take-suc, take_all}
+use Rattle.std.specs.List.{list_all}
 use Rattle.calendar.proofs.Booleans.{and_both}
 use Rattle.hours.specs.Hours.{fixed_schedule, windows, window_period, is_on_peak}
 use Rattle.hours.specs.Packing.{byte_at, entry_of, unpacked}
 use Rattle.hours.specs.Schedules.{schedule_length, is_entry, all_entries, schedule_refused, word_from, words_from, packed, schedule_in}
 
--- The entries from a place on, where the one there is good and where it isn't.
-pub good_entry : (s : List ℕ) (i : ℕ) → i < length s → is_entry (get_or s i 0) ≡ true → all_entries (drop i s) ≡ all_entries (drop (i + 1) s)
+-- The entries are good where each is.
+pub all_entries-is : (s : List ℕ) → list_all is_entry s ≡ all_entries s
 unfolding all_entries
-good_entry s i h e =
-    let next : i + 1 ≡ suc i = omega arith in
-    rw (drop-cons s i 0 h, next, e)
-
-pub bad_entry : (s : List ℕ) (i : ℕ) → i < length s → is_entry (get_or s i 0) ≡ false → all_entries (drop i s) ≡ false
-unfolding all_entries
-bad_entry s i h e = rw (drop-cons s i 0 h, e)
+all_entries-is [] = refl
+all_entries-is (p ∷ s) = rw (all_entries-is s)
 
 -- An entry has two bits; past the end it is 0.
 pub entry_within : (s : List ℕ) (i : ℕ) → all_entries s ≡ true → get_or s i 0 ≤ 3
@@ -57,7 +53,7 @@ entry_of_word s i (suc n) (suc k) good h =
     rw (two, ← (shr-shr (first + 4 * rest) 2 (2 * k)), higher, add-suc i k, ← (suc-add i k)) (entry_of_word s (suc i) n k good (omega arith))
 
 -- Word w of those from place i on.
-word_of_words : (s : List ℕ) (i n w : ℕ) → w < n → get_or (words_from s i n) w 0 ≡ word_from s (i + 32 * w) 32
+pub word_of_words : (s : List ℕ) (i n w : ℕ) → w < n → get_or (words_from s i n) w 0 ≡ word_from s (i + 32 * w) 32
 unfolding words_from
 word_of_words s i zero w h = absurd (omega arith)
 word_of_words s i (suc n) zero h = let same : i + 32 * 0 ≡ i = omega arith in rw same
@@ -128,23 +124,15 @@ bytes_back s (suc n) good h l =
     )
     (four_more s (4 * n) (omega arith))
 
--- With the entry before them, the last entries of a word are one more; so many of them are still left.
-pub word_more : (s : List ℕ) (first left word entry : ℕ) → 0 < left → left ≤ 32 → word ≡ word_from s (first + left) (32 - left)
-    → entry ≡ get_or s (first + (left - 1)) 0 → entry + 4 * word ≡ word_from s (first + (left - 1)) (32 - (left - 1))
+-- With the entry before them, the last entries of a word are one more.
+pub word_more : (s : List ℕ) (first place word entry : ℕ) → first < place → place ≤ first + 32 → word ≡ word_from s place (first + 32 - place)
+    → entry ≡ get_or s (place - 1) 0 → entry + 4 * word ≡ word_from s (place - 1) (first + 32 - (place - 1))
 unfolding word_from
 word_more s first zero word entry h i e f = absurd (omega arith)
 word_more s first (suc k) word entry h i e f =
     let same : suc k - 1 ≡ k = omega arith in
-    let more : 32 - k ≡ suc (32 - suc k) = omega arith in
-    rw (f, e, same, more, add-suc first k)
-
--- With one word more.
-pub words_more : (s : List ℕ) (i n : ℕ) → words_from s i (n + 1) ≡ words_from s i n ++ word_from s (i + 32 * n) 32 ∷ []
-unfolding words_from
-words_more s i zero = let same : i + 32 * 0 ≡ i = omega arith in rw same
-words_more s i (suc n) =
-    let same : i + 32 * suc n ≡ i + 32 + 32 * n = omega arith in
-    rw (suc-add n 1, same, words_more s (i + 32) n)
+    let more : first + 32 - k ≡ suc (first + 32 - suc k) = omega arith in
+    rw (f, e, same, more)
 
 -- A schedule that isn't refused.
 pub accepted_schedule : (s : List ℕ) → schedule_refused s ≡ false → (length s ≡ schedule_length) × (all_entries s ≡ true)

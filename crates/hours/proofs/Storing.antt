@@ -1,29 +1,65 @@
--- Entries stored one after the other behind those that a list has already.
-use mathlib.Core.Path.{◌≡◌, ◌∙◌}
-use mathlib.Core.List.{List, [], ◌∷◌, ◌++◌}
-use Prim.Native.Nat.{ℕ, suc, ◌+◌, ◌*◌, ◌<◌}
+-- Lists that are read by place: the entries of packed words, and the words of a schedule.
+use mathlib.Core.Path.{◌≡◌, refl, ◌∙◌}
+use mathlib.Core.Bool.{Bool, true, false}
+use mathlib.Core.List.{List, [], ◌∷◌}
+use Prim.Native.Nat.{ℕ, zero, suc, ◌+◌, ◌-◌, ◌*◌, ◌/◌, ◌%◌, ◌≤◌, ◌<◌}
+use native.Mathlib.Nat.{zero-add}
 use native.Mathlib.Omega.{arith}
-use lib.ListN.{length, take, set, length-append}
-use lib.Seq.{sets-eq, take_at, length-take-le}
+use borrow.Author.Tests.{ltb-true, ltb-false}
+use lib.Dec.{ltb}
+use lib.ListN.{length, get_or, get_or-append, length-append}
+use lib.Seq.{get_or-append_right}
+use Rattle.std.proofs.lemmas.Grind.{same_number_lists}
 use Rattle.hours.specs.Packing.{byte_at, entry_of, unpacked}
+use Rattle.hours.specs.Schedules.{word_from, words_from, packed}
+use Rattle.hours.proofs.Packed.{word_of_words}
 
--- Four stores behind the first n numbers of a list.
-four_more : (l : List ℕ) (n w x y z : ℕ) → n + 3 < length l
-    → take (n + 4) (set (set (set (set l n w) (n + 1) x) (n + 2) y) (n + 3) z) ≡ take n l ++ w ∷ x ∷ y ∷ z ∷ []
-four_more l n w x y z h =
-    let one : n + 1 ≡ suc n = omega arith in
-    let two : n + 2 ≡ suc (suc n) = omega arith in
-    let three : n + 3 ≡ suc (suc (suc n)) = omega arith in
-    let new = w ∷ x ∷ y ∷ z ∷ [] in
-    let long : length (take n l ++ new) ≡ n + 4 = length-append (take n l) new ∙ rw (length-take-le n l (omega arith)) in
-    rw (one, two, three, sets-eq new l n (omega arith)) (take_at _ _ _ long)
-
--- The entries of one byte more.
-pub byte_more : (words entries : List ℕ) (b : ℕ) {byte w x y z : ℕ} → 4 * b + 3 < length entries → take (4 * b) entries ≡ unpacked words b → byte ≡ byte_at words b
-    → w ≡ entry_of byte 0 → x ≡ entry_of byte 1 → y ≡ entry_of byte 2 → z ≡ entry_of byte 3
-    → take (4 * (b + 1)) (set (set (set (set entries (4 * b) w) (4 * b + 1) x) (4 * b + 2) y) (4 * b + 3) z) ≡ unpacked words (b + 1)
+unpacked_length : (words : List ℕ) (n : ℕ) → length (unpacked words n) ≡ 4 * n
 unfolding unpacked
-byte_more words entries b {byte} {w} {x} {y} {z} l e eb ew ex ey ez =
-    let four : 4 * (b + 1) ≡ 4 * b + 4 = omega arith in
-    let more : b + 1 ≡ suc b = omega arith in
-    rw (four, more, four_more entries (4 * b) w x y z l, e, ew, ex, ey, ez, eb)
+unpacked_length words zero = refl
+unpacked_length words (suc n) =
+    let more : 4 * suc n ≡ 4 * n + 4 = omega arith in
+    rw (length-append, unpacked_length words n, more)
+
+last_four : (byte j : ℕ) → j < 4 → get_or (entry_of byte 0 ∷ entry_of byte 1 ∷ entry_of byte 2 ∷ entry_of byte 3 ∷ []) j 0 ≡ entry_of byte j
+last_four byte zero h = refl
+last_four byte (suc zero) h = refl
+last_four byte (suc (suc zero)) h = refl
+last_four byte (suc (suc (suc zero))) h = refl
+last_four byte (suc (suc (suc (suc j)))) h = absurd (omega arith)
+
+-- Entry k is that of its byte.
+unpacked_at : (words : List ℕ) (n k : ℕ) → k < 4 * n → get_or (unpacked words n) k 0 ≡ entry_of (byte_at words (k / 4)) (k % 4)
+unfolding unpacked
+unpacked_at words zero k h = absurd (omega arith)
+unpacked_at words (suc n) k h = by (λ early. unpacked_at words n k early) (ltb k (4 * n)) refl
+  where
+    by : (k < 4 * n → get_or (unpacked words n) k 0 ≡ entry_of (byte_at words (k / 4)) (k % 4))
+        → (b : Bool) → ltb k (4 * n) ≡ b → get_or (unpacked words (suc n)) k 0 ≡ entry_of (byte_at words (k / 4)) (k % 4)
+    by before true e =
+        let early : k < 4 * n = ltb-true _ _ e in
+        get_or-append (unpacked words n) _ 0 k (rw (unpacked_length words n) early) ∙ before early
+    by before false e =
+        let late : 4 * n ≤ k = ltb-false _ _ e in
+        let byte : k / 4 ≡ n = omega arith in
+        let place : k % 4 ≡ k - 4 * n = omega arith in
+        get_or-append_right (unpacked words n) _ k 0 (rw (unpacked_length words n) late)
+        ∙ rw (unpacked_length words n, byte, place) (last_four (byte_at words n) (k - 4 * n) (omega arith))
+
+-- So entries that are those of their bytes are all that the words have, and words that are those of their entries are the schedule's.
+pub unpacked_all : (words entries : List ℕ) → length entries ≡ 384 → ((k : ℕ) → k < 384 → get_or entries k 0 ≡ entry_of (byte_at words (k / 4)) (k % 4))
+    → entries ≡ unpacked words 96
+unpacked_all words entries long each =
+    same_number_lists entries (unpacked words 96) (long ∙ rw (unpacked_length words 96)) (λ k h. rw (unpacked_at words 96 k (omega arith)) (each k (omega arith)))
+
+packed_length_is : (s : List ℕ) → length (packed s) ≡ 12
+unfolding packed words_from
+packed_length_is s = refl
+
+packed_at : (s : List ℕ) (k : ℕ) → k < 12 → get_or (packed s) k 0 ≡ word_from s (32 * k) 32
+unfolding packed
+packed_at s k h = rw (word_of_words s 0 12 k h, zero-add)
+
+pub packed_all : (s words : List ℕ) → length words ≡ 12 → ((k : ℕ) → k < 12 → get_or words k 0 ≡ word_from s (32 * k) 32) → words ≡ packed s
+packed_all s words long each =
+    same_number_lists words (packed s) (rw (packed_length_is s) long) (λ k h. rw (packed_at s k (omega arith)) (each k (omega arith)))

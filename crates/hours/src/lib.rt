@@ -1,19 +1,21 @@
 // The hours of document 01: the schedule, the critical days, and the period of a quarter-hour; and schedules that are lent (02 No. 7).
 #![tactic(auto)]
 
-ghost use Rattle.std.specs.Prelude.{◌≡◌, true, ◌+◌, ◌<◌, ◌≤◌, length, get_or};
+ghost use Rattle.std.specs.Prelude.{◌≡◌, true, [], ◌+◌, ◌-◌, ◌^◌, ◌<◌, ◌≤◌, min, length, get_or, is_none, unwrap_or, replicate};
+ghost use Rattle.std.specs.List.{list_all};
 ghost use Rattle.calendar.specs.Calendar.{season_of, day_kind_of};
 ghost use Rattle.hours.specs.CriticalDays.{is_critical, critical_count, past_last_day, critical_refused};
-ghost use Rattle.hours.specs.Hours.{fixed_schedule, row_start, period_on_day};
+ghost use Rattle.hours.specs.Hours.{four, fixed_schedule, row_start, period_on_day};
 ghost use Rattle.hours.specs.Packing.{byte_at, entry_of, unpacked};
-ghost use Rattle.hours.specs.Schedules.{all_entries, schedule_refused, word_from, words_or_none};
+ghost use Rattle.hours.specs.Schedules.{schedule_length, is_entry, all_entries, schedule_refused, word_from, packed_length, packed, words_or_none};
 
 mod schedule;
 
 use calendar::{DayKind, Season};
 use schedule::PACKED;
 
-// The periods, dearest first.
+// The periods, dearest first. They stay numbers, since the entries of a lent schedule are bytes of any value and one that is no period is counted in none: with an
+// enum each quarter-hour would have an Option of it, which is no plainer.
 pub const CRITICAL: u8 = 0;
 
 pub const ON_PEAK: u8 = 1;
@@ -31,11 +33,8 @@ pub const PACKED_LENGTH: usize = 12;
 // The most critical days that a month may have.
 const MOST_CRITICAL_DAYS: u32 = 10;
 
-// A number with every bit set.
-const ALL_BITS: u32 = 0xffff_ffff;
-
 // Four amounts, one for each period.
-#[derive(Clone, Copy)]
+#[derive(Clone, Copy, PartialEq, Eq, Default, Debug)]
 pub struct ByPeriod {
     pub critical: u64,
     pub onpeak: u64,
@@ -43,16 +42,35 @@ pub struct ByPeriod {
     pub discount: u64,
 }
 
+impl ByPeriod {
+    // The amounts, dearest period first.
+    pub fn amounts(self) -> [u64; 4]
+        ensures { result ≡ four self [] }
+    {
+        [self.critical, self.onpeak, self.offpeak, self.discount]
+    }
+
+    // The sum over the periods. One that 64 bits can't hold stays at their largest number.
+    pub fn total(self) -> u64
+        ensures { result ≡ min (self.critical + self.onpeak + self.offpeak + self.discount) (2 ^ 64 - 1) }
+    {
+        self.critical
+            .saturating_add(self.onpeak)
+            .saturating_add(self.offpeak)
+            .saturating_add(self.discount)
+    }
+}
+
 // What decides the periods of a day: where its row starts in a schedule, and whether it is critical.
-#[derive(Clone, Copy)]
+#[derive(Clone, Copy, PartialEq, Eq, Debug)]
 pub struct DayHours {
     pub row: usize,
     pub critical: bool,
 }
 
-// Word w of a packed schedule. By a match, which for a constant schedule becomes a table in read-only memory; for `words[w]` instructions would store
-// all words on the stack first.
-fn word_at(words: &[u64; 12], w: usize) -> u64
+// Word w of a packed schedule. It stays a match, which for a constant schedule becomes a table in read-only memory, as the rule of fixed memory asks; for `words[w]`
+// instructions would store all words on the stack first.
+fn word_at(words: &[u64; PACKED_LENGTH], w: usize) -> u64
     requires { w < 12 }
     ensures { result ≡ get_or words.now w 0 }
 {
@@ -74,7 +92,8 @@ fn word_at(words: &[u64; 12], w: usize) -> u64
 }
 
 // Byte b of a packed schedule.
-fn byte_at(words: &[u64; 12], b: usize) -> u8
+#[tactic(auto, unfolding(crate::specs::Packing::byte_at))]
+fn byte_at(words: &[u64; PACKED_LENGTH], b: usize) -> u8
     requires { b < 96 }
     ensures { result ≡ byte_at words.now b }
 {
@@ -91,49 +110,37 @@ fn entry_of(byte: u8, k: u32) -> u8
 }
 
 // The entries of a packed schedule, one to a byte.
-fn unpack(words: &[u64; 12]) -> [u8; 384]
+fn unpack(words: &[u64; PACKED_LENGTH]) -> [u8; SCHEDULE_LENGTH]
     ensures { result ≡ unpacked words.now 96 }
 {
-    let mut entries = [0; 384];
-    let mut b = 0;
-    while b < 96 {
-        let byte = byte_at(words, b);
-        let first = 4 * b;
-        entries[first] = entry_of(byte, 0);
-        entries[first + 1] = entry_of(byte, 1);
-        entries[first + 2] = entry_of(byte, 2);
-        entries[first + 3] = entry_of(byte, 3);
-        b += 1;
+    let mut entries = [0; SCHEDULE_LENGTH];
+    for (place, entry) in entries.iter_mut().enumerate() {
+        *entry = entry_of(byte_at(words, place / 4), (place % 4) as u32);
     }
     entries
 }
 
 // The fixed schedule, unpacked, since the count of a month reads an entry for each quarter-hour.
-pub fn fixed_schedule() -> [u8; 384]
+pub fn fixed_schedule() -> [u8; SCHEDULE_LENGTH]
     ensures { result ≡ fixed_schedule }
 {
     unpack(&PACKED)
+}
+
+// Whether each number is an entry of a schedule.
+fn all_entries(schedule: &[u8]) -> bool
+    ensures { result ≡ list_all is_entry schedule.now }
+{
+    schedule
+        .iter()
+        .all(|entry| ON_PEAK <= *entry && *entry <= DISCOUNT)
 }
 
 // Whether a schedule is refused (number 15).
 pub fn schedule_refused(schedule: &[u8]) -> bool
     ensures { result ≡ schedule_refused schedule.now }
 {
-    if schedule.len() != SCHEDULE_LENGTH {
-        return true;
-    }
-    let mut place = 0;
-    while place < schedule.len() {
-        let entry = schedule[place];
-        if entry < ON_PEAK {
-            return true;
-        }
-        if DISCOUNT < entry {
-            return true;
-        }
-        place += 1;
-    }
-    false
+    schedule.len() != SCHEDULE_LENGTH || !all_entries(schedule)
 }
 
 // The word of the entries from a place on. From the last to the first, which so comes to stand lowest.
@@ -143,94 +150,90 @@ fn word_from(schedule: &[u8], first: usize) -> u64
     ensures { result ≡ word_from schedule.now first 32 }
 {
     let mut word = 0;
-    let mut left = 32;
-    while 0 < left {
-        left -= 1;
-        word = schedule[first + left] as u64 + 4 * word;
+    for place in (first..first + 32).rev() {
+        word = u64::from(schedule[place]) + 4 * word;
     }
     word
 }
 
-// The words of a schedule, 0 in each where it is refused.
-pub fn pack(schedule: &[u8]) -> [u64; PACKED_LENGTH]
-    ensures { result ≡ words_or_none schedule.now }
+// The words of a schedule that isn't refused.
+fn words_of(schedule: &[u8]) -> [u64; PACKED_LENGTH]
+    requires length { length schedule.now ≡ schedule_length }
+    requires entries { all_entries schedule.now ≡ true }
+    ensures { result ≡ packed schedule.now }
 {
     let mut words = [0; PACKED_LENGTH];
-    if schedule_refused(schedule) {
-        return words;
-    }
-    let mut place = 0;
-    while place < PACKED_LENGTH {
-        words[place] = word_from(schedule, 32 * place);
-        place += 1;
+    for (w, word) in words.iter_mut().enumerate() {
+        *word = word_from(schedule, 32 * w);
     }
     words
+}
+
+// The words of a schedule, none where it is refused.
+pub fn pack(schedule: &[u8]) -> Option<[u64; PACKED_LENGTH]>
+    ensures words { unwrap_or result (replicate packed_length 0) ≡ words_or_none schedule.now }
+    ensures none { is_none result ≡ schedule_refused schedule.now }
+{
+    if schedule_refused(schedule) {
+        return None;
+    }
+    Some(words_of(schedule))
 }
 
 // Where the row of a season and a day kind starts in the schedule.
 pub fn row_start(season: Season, kind: DayKind) -> usize
     ensures { result ≡ row_start season kind }
 {
-    match season {
-        Season::Winter => match kind {
-            DayKind::Weekday => 0,
-            DayKind::Weekend => 96,
-        },
-        Season::Summer => match kind {
-            DayKind::Weekday => 192,
-            DayKind::Weekend => 288,
-        },
+    match (season, kind) {
+        (Season::Winter, DayKind::Weekday) => 0,
+        (Season::Winter, DayKind::Weekend) => 96,
+        (Season::Summer, DayKind::Weekday) => 192,
+        (Season::Summer, DayKind::Weekend) => 288,
     }
 }
 
 // The period of a schedule's entry on a day.
+#[tactic(auto, unfolding(crate::specs::Hours::period_on_day))]
 pub fn period_on(day: DayHours, entry: u8) -> u8
     ensures { result ≡ period_on_day day.critical entry }
 {
-    if day.critical {
-        if entry == ON_PEAK {
-            return CRITICAL;
-        }
+    if day.critical && entry == ON_PEAK {
+        CRITICAL
+    } else {
+        entry
     }
-    entry
 }
 
 // Whether a day is among the critical days.
 pub fn is_critical(critical_days: u32, day: u32) -> bool
     ensures { result ≡ is_critical critical_days day }
 {
-    if day == 0 {
-        return false;
+    match day {
+        1..=32 => (critical_days >> (day - 1)) & 1 == 1,
+        _ => false,
     }
-    if 32 < day {
-        return false;
-    }
-    (critical_days >> (day - 1)) & 1 == 1
 }
 
 // The number of critical days.
 pub fn critical_count(critical_days: u32) -> u32
     ensures { result ≡ critical_count critical_days 32 }
 {
-    u32::count_ones(critical_days)
+    critical_days.count_ones()
 }
 
 // Whether a day past the month's last one is among the critical days.
 pub fn past_last_day(month: u32, critical_days: u32) -> bool
     ensures { result ≡ past_last_day month critical_days }
 {
-    let past = ALL_BITS << calendar::days_in(month);
-    critical_days & past != 0
+    critical_days & (u32::MAX << calendar::days_in(month)) != 0
 }
 
 // Whether the critical days are refused (number 9).
+#[tactic(auto, unfolding(crate::specs::CriticalDays::critical_refused))]
 pub fn critical_refused(month: u32, critical_days: u32) -> bool
     ensures { result ≡ critical_refused month critical_days }
 {
-    if past_last_day(month, critical_days) {
-        return true;
-    }
-    MOST_CRITICAL_DAYS < critical_count(critical_days)
+    past_last_day(month, critical_days) || MOST_CRITICAL_DAYS < critical_count(critical_days)
 }
 
 // What decides the periods of a day of a month.

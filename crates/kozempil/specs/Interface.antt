@@ -1,6 +1,6 @@
 -- The interface for C: how an account is written to a lent buffer and read from one, and what a list of calls leaves there. w is the row of an
 -- account.
-use Rattle.std.specs.Prelude.{◌≡◌, Bool, cond, ◌&&◌, List, [], ◌∷◌, ◌++◌, ℕ, ◌+◌, ◌/◌, ◌^◌, min, eqb, leb, ltb, length, get_or}
+use Rattle.std.specs.Prelude.{◌≡◌, Bool, cond, ◌&&◌, List, [], ◌∷◌, ◌++◌, ℕ, ◌+◌, ◌/◌, ◌^◌, min, eqb, leb, ltb, length, get_or, Option, Some, None}
 use Rattle.std.proofs.lemmas.List.Edits.{sets}
 use Rattle.hours.specs.Hours.{four}
 use Rattle.registers.specs.DayView.{Part}
@@ -11,9 +11,10 @@ use Rattle.account.specs.Account.{fresh_account}
 use Rattle.records.specs.Sections.{terms_length, terms_numbers, terms_at, known_terms, prices_length, prices_numbers, prices_at, four_at}
 use Rattle.records.specs.Records.{record_length, is_call}
 use Rattle.records.specs.Rows.{row_length}
-use Rattle.balances.specs.Calls.{Call, answers_of, last_of}
+use Rattle.balances.specs.Calls.{Call, answer_of, account_after, answers_of, last_of}
 use Rattle.balances.specs.Balances.{Balanced}
-use Rattle.ledger.specs.Encoding.{rows_of}
+use Rattle.ledger.specs.Encoding.{call_of, rows_of}
+use Rattle.ledger.specs.declared.Answered.{Answered}
 use Rattle.kozempil.specs.declared.Counts.{Counts}
 
 -- Our rule: the layout of calls, answers and accounts has a version, which rises when a place, a code or a number is added or changed.
@@ -28,6 +29,10 @@ stage_code Closed = 2
 
 abbrev pub stage_at : ℕ → Stage
 stage_at n = cond (eqb n 0) Fresh (cond (eqb n 1) Open Closed)
+
+-- The stage of a known code.
+abbrev pub stage_read : ℕ → Option Stage
+stage_read n = cond (leb n 2) (Some (stage_at n)) None
 
 -- The row of an account: stage; terms; price list; next month; carried by period; standing money.
 abbrev pub stage_place : ℕ
@@ -73,6 +78,10 @@ account_at w =
       standing = get_or w standing_place 0;
     }
 
+-- What numbers are read as, where they are an account.
+unfoldable pub account_read : List ℕ → Option Account
+account_read w = cond (is_account w) (Some (account_at w)) None
+
 -- A list of calls from the fresh account: rows of its answers and the row of the last account are written to two buffers, each from its front,
 -- and what doesn't fit is left out (`sets`); r counts the calls answered and the rows of answers written whole.
 pub record ListAnswered (cs : List Call) (answers_before answers_after account_before account_after : List ℕ) (r : Counts) : Type 0 where
@@ -85,6 +94,13 @@ pub record ListAnswered (cs : List Call) (answers_before answers_after account_b
 -- A call on a given account is answered where the numbers are an account, and the record is a call of a record's length.
 unfoldable pub is_answered : List ℕ → List ℕ → Bool
 is_answered w call = is_account w && (eqb (length call) record_length && is_call call)
+
+-- The answer to it, and the account after it.
+unfoldable pub answer_to : List ℕ → List ℕ → List ℕ → List ℕ → Option Answered
+answer_to w call delivered received =
+    cond (is_answered w call)
+    (Some (record { account = account_after (account_at w) (call_of call delivered received); answer = answer_of (account_at w) (call_of call delivered received) }))
+    None
 
 -- A day view as start and length: the places before it in the register named, and the readings in it.
 unfoldable pub part_numbers : Part → List ℕ

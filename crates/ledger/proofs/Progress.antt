@@ -2,25 +2,27 @@
 use mathlib.Core.Path.{◌≡◌, refl, sym, ◌∙◌}
 use mathlib.Core.Bool.{true, false}
 use mathlib.Core.List.{List, [], ◌∷◌}
-use Prim.Native.Nat.{ℕ, ◌+◌, ◌-◌, ◌*◌, ◌/◌, ◌^◌, ◌≤◌, ◌<◌, min}
+use Prim.Native.Nat.{ℕ, ◌+◌, ◌*◌, ◌≤◌, ◌<◌}
 use native.Mathlib.Omega.{arith}
-use mir.Syntax.{w64}
-use mir.Val.{Fits}
-use lib.ListN.{length, take, drop}
+use lib.ListN.{length, take, drop, length-drop}
 use lib.Seq.{sets}
+use Rattle.std.specs.Prelude.{Some}
 use Rattle.account.specs.declared.Account.{Account}
+use Rattle.records.specs.declared.Call.{Call as Said}
 use Rattle.records.specs.Records.{record_length, delivered_place, received_place, count_at, is_call}
+use Rattle.records.specs.Reading.{call_read, delivered_said, received_said}
 use Rattle.records.specs.Rows.{row_length, row_of}
 use Rattle.text.proofs.Lists.{sets-append}
 use Rattle.ledger.specs.declared.Ran.{Ran}
-use Rattle.ledger.specs.declared.Step.{Step}
+use Rattle.ledger.specs.declared.Answered.{Answered}
 use Rattle.balances.specs.Calls.{Call, answer_of, account_after, answers_of, last_of}
-use Rattle.ledger.specs.Encoding.{call_of, rows_of, decode, calls_in}
-use Rattle.ledger.specs.Running.{step_of, ran_to}
+use Rattle.ledger.specs.Encoding.{call_of, rows_of, calls_in}
+use Rattle.ledger.specs.Running.{step_of, with_readings, ran_to}
 use Rattle.ledger.specs.DemandThree.{Holds, DemandThree}
 use Rattle.balances.proofs.Balances.{balanced}
-use Rattle.ledger.proofs.Decoding.{decode_none, decode_stop, decode_next, record_length_lem}
 use Rattle.balances.proofs.Reachable.{reachable}
+use Rattle.ledger.proofs.Decoding.{calls_none, calls_stop, calls_next}
+use Rattle.ledger.proofs.Records.{is_read, call_is, delivered_count, received_count}
 use Rattle.ledger.proofs.Roundtrip.{read_back}
 
 -- The whole list from its first account, and what its answers leave in the buffer; the calls that are left, the account, the next row's place
@@ -33,7 +35,7 @@ module _ (first : Account) (all : List Call) (before : List ℕ) where
   pub start : Progress first all before all first 0 before
   start = record { last = refl; answers = refl }
 
-  pub next : (c : Call) (rest : List Call) (a : Account) (row : ℕ) (buffer after : List ℕ) (s : Step) (xs : List ℕ)
+  pub next : (c : Call) (rest : List Call) (a : Account) (row : ℕ) (buffer after : List ℕ) (s : Answered) (xs : List ℕ)
       → Progress first all before (c ∷ rest) a row buffer → s ≡ step_of a c → xs ≡ row_of s.answer → after ≡ sets buffer row xs
       → Progress first all before rest s.account (row + row_length) after
   unfolding step_of last_of answers_of rows_of
@@ -56,72 +58,26 @@ module _ (first : Account) (all : List Call) (before : List ℕ) where
         arises = λ f h. rw (e, p.last) (reachable first f h all);
       }
 
--- The loop's state: where the next record, readings and row start, and what is left.
-pub record Running (first : Account) (calls delivered received before answers : List ℕ) (a : Account) (left call taken given row : ℕ) : Type 0 where
-  pub records : call + record_length * left ≤ length calls
-  pub taken_in : taken ≤ length delivered
-  pub given_in : given ≤ length received
-  pub rows : row + row_length * left ≤ row_length * (length calls / record_length)
+-- The loop's state: how many calls are answered, and what is left of the records and of the registers.
+pub record Running (first : Account) (calls delivered received before answers : List ℕ) (a : Account) (answered : ℕ) (ws ds rs : List ℕ) : Type 0 where
+  pub records : record_length * answered + length ws ≡ length calls
   pub same : length answers ≡ length before
-  pub count :
-      length (decode left (drop call calls) (drop taken delivered) (drop given received)) + length calls / record_length
-      ≡ length (calls_in calls delivered received) + left
-  pub progress :
-      Progress first (calls_in calls delivered received) before (decode left (drop call calls) (drop taken delivered) (drop given received)) a row answers
+  pub count : answered + length (calls_in ws ds rs) ≡ length (calls_in calls delivered received)
+  pub progress : Progress first (calls_in calls delivered received) before (calls_in ws ds rs) a (answered * row_length) answers
 
--- Before the first record nothing is taken.
+-- Before the first record nothing is answered.
 pub started : (first : Account) (calls delivered received before : List ℕ)
-    → Running first calls delivered received before before first (length calls / record_length) 0 0 0 0
-unfolding calls_in
+    → Running first calls delivered received before before first 0 calls delivered received
 started first calls delivered received before =
     record {
       records = omega arith;
-      taken_in = omega arith;
-      given_in = omega arith;
-      rows = omega arith;
       same = refl;
-      count = refl;
+      count = omega arith;
       progress = start first (calls_in calls delivered received) before;
     }
 
--- The next record is there, and so are the readings that it takes; and every place is a number of 64 bits, since a slice's bytes are.
-module _ {first : Account} {calls delivered received before answers : List ℕ} {a : Account} {left call taken given row : ℕ}
-    (g : Running first calls delivered received before answers a left call taken given row) where
-  pub record_in : 0 < left → call + record_length ≤ length calls
-  record_in h = omega (arith, g.records)
-
-  pub record_long : 0 < left → length (take (call + record_length - call) (drop call calls)) ≡ record_length
-  record_long h = record_length_lem calls call (record_in h)
-
-  pub record_fits : 0 < left → length calls * 8 < 2 ^ 63 → Fits w64 (call + record_length)
-  record_fits h b = record { fits = omega (arith, record_in h) }
-
-  pub call_fits : 0 < left → length calls * 8 < 2 ^ 63 → Fits w64 (call * 8)
-  call_fits h b = record { fits = omega (arith, record_in h) }
-
-  pub left_in : left ≤ length calls / record_length
-  left_in = omega (arith, g.records)
-
-  pub less : 0 < left → left - 1 < left
-  less h = omega arith
-
-  pub row_fits : 0 < left → length calls * 8 < 2 ^ 63 → Fits w64 (row + row_length)
-  row_fits h b = record { fits = omega (arith, g.rows) }
-
--- From a place in a register of n readings a call takes the smaller of what it says and what is left.
-module _ {place n : ℕ} (h : place ≤ n) (b : n * 4 < 2 ^ 63) where
-  pub place_fits : Fits w64 (place * 4)
-  place_fits = record { fits = omega arith }
-
-  module _ {count : ℕ} (said : ℕ) (e : count ≡ min said (n - place)) where
-    pub readings_in : place + count ≤ n
-    readings_in = omega arith
-
-    pub readings_fit : Fits w64 (place + count)
-    readings_fit = record { fits = omega arith }
-
 -- The calls read back are those that were lent.
-pub whole : (first : Account) (calls delivered received before after : List ℕ) (r : Ran)
+whole : (first : Account) (calls delivered received before after : List ℕ) (r : Ran)
     → Holds first (calls_in calls delivered received) before after r → DemandThree first calls delivered received before after r
 whole first calls delivered received before after r h =
     record {
@@ -129,54 +85,50 @@ whole first calls delivered received before after r h =
       every = λ cs fit e f g. rw (e, f, g, read_back cs fit) at h;
     }
 
--- At the end of the list, and at a record that is no call, all is answered.
-module _ (first : Account) (calls delivered received before answers : List ℕ) (a : Account) (left call taken given row : ℕ) where
-  pub ended : (r : Ran) → Running first calls delivered received before answers a left call taken given row → left ≤ 0
-      → r ≡ ran_to a (length calls / record_length) (length before) → DemandThree first calls delivered received before answers r
-  ended r g z e =
-      let none : left ≡ 0 = omega arith in
-      let rest = decode_none calls delivered received call taken given in
+module _ {first : Account} {calls delivered received before answers : List ℕ} {a : Account} {answered : ℕ} {ws ds rs : List ℕ}
+    (g : Running first calls delivered received before answers a answered ws ds rs) where
+  -- Where no call is left, all is answered: at the end of the list, and at a record that is no call.
+  over : (r : Ran) → calls_in ws ds rs ≡ [] → r ≡ ran_to a answered (length before) → DemandThree first calls delivered received before answers r
+  over r e k =
       whole first calls delivered received before answers r
-      (finish first (calls_in calls delivered received) before a row answers _ r
-      (rw (none, rest) at g.progress)
-      (omega (arith, rw (none, rest) at g.count))
-      e)
+      (finish first (calls_in calls delivered received) before a _ answers answered r (rw e at g.progress) (omega (arith, rw e at g.count)) k)
 
-  pub stopped : (w : List ℕ) (r : Ran) → Running first calls delivered received before answers a left call taken given row → 0 < left
-      → w ≡ take record_length (drop call calls) → is_call w ≡ false → r ≡ ran_to a (length calls / record_length - left) (length before)
+  pub ended : {r : Ran} → length ws < record_length → r ≡ ran_to a answered (length before) → DemandThree first calls delivered received before answers r
+  ended {r} h = over r (calls_none ws ds rs h)
+
+  pub stopped : {r : Ran} → record_length ≤ length ws → is_call (take record_length ws) ≡ false → r ≡ ran_to a answered (length before)
       → DemandThree first calls delivered received before answers r
-  stopped w r g h i e k =
-      let rest = decode_stop calls delivered received call taken given left h (rw (← i) e) in
-      whole first calls delivered received before answers r
-      (finish first (calls_in calls delivered received) before a row answers _ r
-      (rw rest at g.progress)
-      (omega (arith, rw rest at g.count))
-      k)
+  stopped {r} h e = over r (calls_stop ws ds rs h e)
 
   -- A record that is a call is answered and written, and the next one follows it.
-  pub advance : (d r : ℕ) (w : List ℕ) (s : Step) (xs after : List ℕ)
-      → Running first calls delivered received before answers a left call taken given row → 0 < left
-      → w ≡ take record_length (drop call calls) → is_call w ≡ true
-      → d ≡ min (count_at w delivered_place) (length delivered - taken)
-      → r ≡ min (count_at w received_place) (length received - given)
-      → s ≡ step_of a (call_of w (take (taken + d - taken) (drop taken delivered)) (take (given + r - given) (drop given received)))
-      → xs ≡ row_of s.answer → after ≡ sets answers row xs → length after ≡ length answers
-      → Running first calls delivered received before after
-      s.account (left - 1) (call + record_length) (taken + d) (given + r) (row + row_length)
-  advance d r w s xs after g h i k e f j o q l =
-      let dd : taken + d - taken ≡ d = omega arith in
-      let rr : given + r - given ≡ r = omega arith in
-      record {
-        records = omega (arith, g.records);
-        taken_in = omega (arith, g.taken_in);
-        given_in = omega (arith, g.given_in);
-        rows = omega (arith, g.rows);
+  pub advance : (w : List ℕ) (c : Said) {m n : ℕ} {more taken given ds_left rs_left : List ℕ} {s : Answered} {xs after : List ℕ}
+      → record_length ≤ length ws → w ≡ take record_length ws → more ≡ drop record_length ws → call_read w ≡ Some c
+      → m ≡ delivered_said c → taken ≡ take m ds → ds_left ≡ drop m ds → n ≡ received_said c → given ≡ take n rs → rs_left ≡ drop n rs
+      → s ≡ step_of a (with_readings c taken given) → xs ≡ row_of s.answer → after ≡ sets answers (answered * row_length) xs
+      → length after ≡ length answers
+      → Running first calls delivered received before after s.account (answered + 1) more ds_left rs_left
+  advance w c {m} {n} {more} {taken} {given} {ds_left} {rs_left} {s} {xs} {after} h i e k dm dt dl rn rt rl j o q l =
+      let known : is_call (take record_length ws) ≡ true = rw (← i) (is_read w c k) in
+      let many : m ≡ count_at (take record_length ws) delivered_place = dm ∙ (rw (← i) (delivered_count w c k)) in
+      let much : n ≡ count_at (take record_length ws) received_place = rn ∙ (rw (← i) (received_count w c k)) in
+      let one : with_readings c taken given
+      ≡ call_of
+      (take record_length ws)
+      (take (count_at (take record_length ws) delivered_place) ds)
+      (take (count_at (take record_length ws) received_place) rs) =
+      rw (call_is w c k taken given, i, dt, many, rt, much) in
+      let left = calls_next ws ds rs h known in
+      let place : (answered + 1) * row_length ≡ answered * row_length + row_length = omega arith in
+      rw (e, dl, many, rl, much)
+      (record {
+        records = omega (arith, g.records, length-drop record_length ws);
         same = l ∙ g.same;
-        count = omega (arith, rw (decode_next calls delivered received call taken given left d r w h i k e f) at g.count);
+        count = omega (arith, rw left at g.count);
         progress =
-            next first (calls_in calls delivered received) before _ _ a row answers after s xs
-            (rw (decode_next calls delivered received call taken given left d r w h i k e f) at g.progress)
-            (rw (dd, rr) at j)
+            rw place
+            (next first (calls_in calls delivered received) before _ _ a (answered * row_length) answers after s xs
+            (rw left at g.progress)
+            (rw one at j)
             o
-            q;
-      }
+            q);
+      })

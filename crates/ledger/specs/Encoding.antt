@@ -1,10 +1,8 @@
 -- How a list of calls is lent to `run`: a record for each call, and the readings of its billings one after the other in two registers; and
 -- how its answers are written: a row for each. w is the record of one call.
-use Rattle.std.specs.Prelude.{◌≡◌, true, false, cond, ◌&&◌, List, [], ◌∷◌, ◌++◌, ℕ, zero, suc, ◌-◌, ◌/◌, ◌^◌, ◌<◌, eqb, length, get_or, take, drop, replicate}
+use Rattle.std.specs.Prelude.{◌≡◌, cond, ◌&&◌, List, [], ◌∷◌, ◌++◌, ℕ, zero, suc, ◌-◌, ◌/◌, ◌^◌, ◌<◌, eqb, length, get_or, take, drop, replicate, Option, Some, None}
 use Rattle.tariff.specs.Tariff.{most_nameplates}
-use Rattle.billing.specs.Billing.{no_bill}
 use Rattle.account.specs.declared.Account.{Account}
-use Rattle.account.specs.Account.{no_amounts}
 use Rattle.records.specs.declared.Answer.{Answer}
 use Rattle.records.specs.Sections.{terms_length, terms_numbers, terms_at, prices_numbers, prices_at}
 use Rattle.records.specs.Records.{opening_kind, repricing_kind, billing_kind, closing_kind, kind_of, count_at, is_call}
@@ -86,17 +84,9 @@ unfoldable pub rows_of : List Answer → List ℕ
 rows_of [] = []
 rows_of (x ∷ xs) = row_of x ++ rows_of xs
 
--- An answer with 0 in all.
-abbrev pub no_answer : Answer
-no_answer = record { number = 0; bill = no_bill; amounts = no_amounts }
-
--- The answer to one record on an account: where it is no call of a record's length, the account as it came and no answer.
-unfoldable pub answered_of : Account → List ℕ → List ℕ → List ℕ → Answered
+-- The answer to one record on an account, and the account after it, where the record is a call of a record's length.
+unfoldable pub answered_of : Account → List ℕ → List ℕ → List ℕ → Option Answered
 answered_of a w delivered received =
     cond (eqb (length w) record_length && is_call w)
-    (record {
-      known = true;
-      account = account_after a (call_of w delivered received);
-      answer = answer_of a (call_of w delivered received);
-    })
-    (record { known = false; account = a; answer = no_answer })
+    (Some (record { account = account_after a (call_of w delivered received); answer = answer_of a (call_of w delivered received) }))
+    None

@@ -1,73 +1,68 @@
 -- What lines change, over plain values: each law says what a definition gives where a test holds or fails.
-use mathlib.Core.Path.{◌≡◌, sym, ◌∙◌, ap}
-use mathlib.Core.Bool.{true, false}
-use mathlib.Core.List.{List, []}
+use mathlib.Core.Path.{◌≡◌, refl, sym, ap}
+use mathlib.Core.Bool.{false}
+use mathlib.Core.List.{List, [], ◌∷◌}
 use Prim.Native.Nat.{ℕ, ◌+◌, ◌≤◌, ◌<◌}
+use native.Mathlib.Omega.{arith}
 use borrow.Author.Tests.{lt-ltb, le-ltb, eq-eqb, ne_eqb}
 use lib.Dec.{eqb}
-use lib.ListN.{length}
-use Rattle.account.specs.declared.BillingReply.{BillingReply}
-use Rattle.numerals.specs.declared.Numbers.{Numbers}
+use lib.ListN.{length, get_or}
+use Rattle.account.specs.Account.{BillingReply}
 use Rattle.grammar.specs.Grammar.{opening_line, bill_line, critical_line, run_line}
-use Rattle.numerals.specs.Reading.{numbers_as}
 use Rattle.printing.specs.Printing.{bill_text, line_text}
 use Rattle.lines.specs.Statement.{State, outcome, next_number, fault, opened, opening_read, begun, bill_read, with_critical, critical_read}
 use Rattle.lines.specs.Statement.{with_line, with_run, run_read, month_reply, month_end, run_or_bill_read, expected_read, at_end}
 use Rattle.lines.specs.Statement.{has_stopped}
 
--- A line gives no numbers just where none were read.
-pub none_read : (v : List ℕ) (x : Numbers) → x ≡ numbers_as v → x.count ≡ 0 → eqb (length v) 0 ≡ true
-none_read v x e h = eq-eqb (length v) 0 (sym (ap (λ (y : Numbers). y.count) e) ∙ h)
-
-pub some_read : (v : List ℕ) (x : Numbers) → x ≡ numbers_as v → (x.count ≡ 0 → ⊥) → eqb (length v) 0 ≡ false
-some_read v x e h = ne_eqb (length v) 0 (λ q. h (ap (λ (y : Numbers). y.count) e ∙ q))
-
-module _ (v : List ℕ) (x : Numbers) (e : x ≡ numbers_as v) (s : State) where
-  pub bill_no : x.count ≡ 0 → bill_read v s ≡ fault s
+-- A line that gives no numbers, and one that gives one.
+module _ (s : State) where
+  pub bill_no : bill_read [] s ≡ fault s
   unfolding bill_read
-  bill_no h = rw (none_read v x e h)
+  bill_no = refl
 
-  pub bill_yes : (x.count ≡ 0 → ⊥) → bill_read v s ≡ outcome [] (begun x.first s)
+  pub bill_yes : (n : ℕ) → bill_read (n ∷ []) s ≡ outcome [] (begun n s)
   unfolding bill_read
-  bill_yes h = rw (some_read v x e h) (ap (λ (y : Numbers). outcome [] (begun y.first s)) (sym e))
+  bill_yes n = refl
 
-  pub critical_no : x.count ≡ 0 → critical_read v s ≡ fault s
+  pub critical_no : critical_read [] s ≡ fault s
   unfolding critical_read
-  critical_no h = rw (none_read v x e h)
+  critical_no = refl
 
-  pub critical_yes : (x.count ≡ 0 → ⊥) → critical_read v s ≡ outcome [] (with_critical x.first s)
+  pub critical_yes : (n : ℕ) → critical_read (n ∷ []) s ≡ outcome [] (with_critical n s)
   unfolding critical_read
-  critical_yes h = rw (some_read v x e h) (ap (λ (y : Numbers). outcome [] (with_critical y.first s)) (sym e))
+  critical_yes n = refl
 
-  pub opening_no : x.count ≡ 0 → opening_read v s ≡ fault s
+  pub opening_no : opening_read [] s ≡ fault s
   unfolding opening_read
-  opening_no h = rw (none_read v x e h)
+  opening_no = refl
 
-  pub opening_more : (x.count ≡ 0 → ⊥) → s.expected < 13 → opening_read v s ≡ outcome [] (with_line v s)
-  unfolding opening_read
-  opening_more h k = rw (some_read v x e h, lt-ltb s.expected 13 k)
+module _ (v : List ℕ) (some : 0 < length v) (s : State) where
+  read : eqb (length v) 0 ≡ false
+  read = ne_eqb (length v) 0 (λ q. omega arith)
 
-  pub opening_last : (x.count ≡ 0 → ⊥) → 13 ≤ s.expected → opening_read v s ≡ opened (with_line v s)
+  pub opening_more : s.expected < 13 → opening_read v s ≡ outcome [] (with_line v s)
   unfolding opening_read
-  opening_last h k = rw (some_read v x e h, le-ltb s.expected 13 k)
+  opening_more k = rw (read, lt-ltb s.expected 13 k)
+
+  pub opening_last : 13 ≤ s.expected → opening_read v s ≡ opened (with_line v s)
+  unfolding opening_read
+  opening_last k = rw (read, le-ltb s.expected 13 k)
 
 -- A line after the critical line.
-module _ (l : List ℕ) (s : State) (x : Numbers) (e : x ≡ numbers_as (run_line l)) where
-  pub later_run : (x.count ≡ 0 → ⊥) → run_or_bill_read l s ≡ run_read x.first x.second x.third s
+module _ (l : List ℕ) (s : State) where
+  pub later_run : (length (run_line l) ≡ 0 → ⊥)
+      → run_or_bill_read l s ≡ run_read (get_or (run_line l) 0 0) (get_or (run_line l) 1 0) (get_or (run_line l) 2 0) s
   unfolding run_or_bill_read
-  later_run h =
-      rw (some_read (run_line l) x e h) (ap (λ (y : Numbers). run_read y.first y.second y.third s) (sym e))
+  later_run h = rw (ne_eqb (length (run_line l)) 0 h)
 
-  pub later_no : (y : Numbers) → y ≡ numbers_as (bill_line l) → x.count ≡ 0 → y.count ≡ 0 → run_or_bill_read l s ≡ fault s
+  pub later_no : [] ≡ run_line l → [] ≡ bill_line l → run_or_bill_read l s ≡ fault s
   unfolding run_or_bill_read
-  later_no y f h k = rw (none_read (run_line l) x e h, none_read (bill_line l) y f k)
+  later_no h k = rw (← h, ← k)
 
-  pub later_bill : (y : Numbers) → y ≡ numbers_as (bill_line l) → x.count ≡ 0 → (y.count ≡ 0 → ⊥)
-      → run_or_bill_read l s ≡ outcome (month_end s).text (begun y.first (month_end s).state)
+  pub later_bill : (n : ℕ) → [] ≡ run_line l → n ∷ [] ≡ bill_line l
+      → run_or_bill_read l s ≡ outcome (month_end s).text (begun n (month_end s).state)
   unfolding run_or_bill_read
-  later_bill y f h k =
-      rw (none_read (run_line l) x e h, some_read (bill_line l) y f k)
-      (ap (λ (z : Numbers). outcome (month_end s).text (begun z.first (month_end s).state)) (sym f))
+  later_bill n h k = rw (← h, ← k)
 
 -- A run past the most readings, and one that fits.
 pub run_no : (count d e : ℕ) (s : State) → 2976 < length s.entered.delivered + count → run_read count d e s ≡ fault s

@@ -3,9 +3,7 @@
 use Rattle.std.specs.Prelude.{Bool, cond, not, ◌||◌, List, [], ◌∷◌, ◌++◌, ℕ, ◌+◌, ◌-◌, ◌^◌, eqb, ltb, length, get_or, replicate}
 use Rattle.std.proofs.lemmas.List.Edits.{sets}
 use Rattle.account.specs.declared.Account.{Account}
-use Rattle.account.specs.declared.Reply.{Reply}
-use Rattle.account.specs.declared.BillingReply.{BillingReply}
-use Rattle.account.specs.Account.{fresh_account, opening_reply, billing_reply}
+use Rattle.account.specs.Account.{PlainReply, BillingReply, fresh_account, opening_reply, billing_reply}
 use Rattle.grammar.specs.Grammar.{opening_line, bill_line, critical_line, run_line}
 use Rattle.printing.specs.Printing.{bill_text, open_text, line_text}
 use Rattle.lines.specs.Opening.{place_of_line, opening_length, kept_of_line, opening_month, opening_terms, opening_prices}
@@ -88,12 +86,12 @@ with_line v s =
     s.entered
 
 -- "It prints the opening's number once line 14 is read"
-abbrev pub account_reply : Account → List ℕ → Reply
+abbrev pub account_reply : Account → List ℕ → PlainReply
 account_reply a xs = opening_reply a (opening_terms xs) (opening_prices xs) (opening_month xs)
 
 unfoldable pub opened : State → Outcome
 opened s =
-    let r : Reply = account_reply s.account s.values in
+    let r : PlainReply = account_reply s.account s.values in
     outcome (open_text r.number) (state s.lines s.expected s.values r.account s.entered)
 
 unfoldable pub opening_read : List ℕ → State → Outcome

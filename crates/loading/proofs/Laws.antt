@@ -95,7 +95,7 @@ written s table end h k last =
     let third = full 192 s all (omega arith) in
     let fourth = full 288 s all (omega arith) in
     let read = rows_read (take 96 s) (take 96 (drop 96 s)) (take 96 (drop 192 s)) (take 96 (drop 288 s)) end first second third fourth last in
-    let loaded = load_good (text_of s ++ end) table k (record { good = sym read.0; given = λ e. refl }) refl refl in
+    let loaded = load_good (text_of s ++ end) table k read.0 in
     (sym loaded.0, sym loaded.1 ∙ read.1 ∙ parts s long)
 
 -- So it is with no newline there, or one.

@@ -2,20 +2,19 @@
 use mathlib.Core.Path.{◌≡◌, refl, ◌∙◌}
 use mathlib.Core.Bool.{Bool, true, false, false≢true, cond, not, ◌&&◌, and-false}
 use mathlib.Core.List.{List, [], ◌∷◌, map}
-use Prim.Native.Nat.{ℕ, zero, suc, ◌+◌, ◌-◌, ◌*◌, ◌≤◌, ◌<◌}
+use Prim.Native.Nat.{ℕ, ◌+◌, ◌-◌, ◌≤◌, ◌<◌}
 use native.Mathlib.Numerals.{add-one}
 use native.Mathlib.Omega.{arith}
 use borrow.Author.Tests.{eq-eqb, ne_eqb, eqb-true, le-leb, lt-leb, leb-true}
 use lib.Dec.{eqb, leb}
-use lib.ListN.{length, get_or, take, drop, length-map, length-take, length-drop, drop_of_length-le}
-use lib.Seq.{drop-cons}
+use lib.ListN.{length, set, get_or, take, drop, length-map, drop_of_length-le}
+use lib.Seq.{drop-cons, take-suc, take-suc-set}
+use Rattle.std.proofs.lemmas.List.{map-append}
 use Rattle.calendar.proofs.Booleans.{and_both}
 use Rattle.hours.specs.Schedules.{is_entry, all_entries}
-use Rattle.text.specs.Text.{bytes_of}
 use Rattle.grammar.specs.Grammar.{keyed}
 use Rattle.grammar.proofs.Sizes.{keyed_either}
 use Rattle.loading.specs.Loading.{is_period_digit, all_period_digits, periods_in}
-use Rattle.loading.specs.Reading.{line_given}
 
 module _ (i : ℕ) (l : List ℕ) where
   -- The digit at a place is a period's, so the rest decides; or it isn't.
@@ -36,6 +35,13 @@ module _ (i : ℕ) (l : List ℕ) where
   unfolding all_period_digits
   digits_end h = rw (drop_of_length-le l h)
 
+-- The period of one digit more is stored.
+pub period_next : (digits periods : List ℕ) (i : ℕ) → i < length digits → i < length periods
+    → take i periods ≡ map (λ b. b - 48) (take i digits)
+    → take (i + 1) (set periods i (get_or digits i 0 - 48)) ≡ map (λ b. b - 48) (take (i + 1) digits)
+period_next digits periods i h k e =
+    rw (add-one i, take-suc-set periods i (get_or digits i 0 - 48) k, take-suc digits i 0 h, map-append (λ b. b - 48) (take i digits) (get_or digits i 0 ∷ []), e)
+
 -- 96 digits of periods give these, and everything else gives none.
 pub periods_other : (l : List ℕ) → (length l ≡ 96 → ⊥) → periods_in l ≡ []
 unfolding periods_in
@@ -44,6 +50,10 @@ periods_other l h = rw (ne_eqb (length l) 96 h)
 pub periods_are : (l : List ℕ) → length l ≡ 96 → all_period_digits l ≡ true → periods_in l ≡ map (λ b. b - 48) l
 unfolding periods_in
 periods_are l h e = rw (eq-eqb (length l) 96 h, e)
+
+pub periods_bad : (l : List ℕ) → all_period_digits l ≡ false → periods_in l ≡ []
+unfolding periods_in
+periods_bad l e = rw (e, and-false (eqb (length l) 96))
 
 pub periods_good : (l : List ℕ) → length l ≡ 96 → not (eqb (length (periods_in l)) 0) ≡ all_period_digits l
 unfolding periods_in
@@ -86,25 +96,3 @@ periods_row l = by (eqb (length l) 96) refl (all_period_digits l) refl
 
 pub keyed_row : (key l : List ℕ) → Row (keyed key periods_in l)
 keyed_row key l = keyed_either Row key periods_in l none_row (periods_row (drop (length key) l))
-
--- The keys one after the other, as the code has them, and the one of a row.
-abbrev keys : List ℕ
-keys = bytes_of "winter-weekday=winter-weekend=summer-weekday=summer-weekend="
-
-abbrev pub key_of : ℕ → List ℕ
-key_of row = take (15 * row + 15 - 15 * row) (drop (15 * row) keys)
-
-pub key_length : (row : ℕ) → row < 4 → length (key_of row) ≡ 15
-key_length row h = simp (length-take, length-drop) (omega arith)
-
--- A row's line is read by its key.
-pub line_keyed : (row : ℕ) (l : List ℕ) → row < 4 → keyed (key_of row) periods_in l ≡ line_given row l
-unfolding line_given
-line_keyed zero l h = refl
-line_keyed (suc zero) l h = refl
-line_keyed (suc (suc zero)) l h = refl
-line_keyed (suc (suc (suc zero))) l h = refl
-line_keyed (suc (suc (suc (suc row)))) l h = absurd (omega arith)
-
-pub line_row : (row : ℕ) (l : List ℕ) → row < 4 → Row (line_given row l)
-line_row row l h = rw (← (line_keyed row l h)) (keyed_row (key_of row) l)

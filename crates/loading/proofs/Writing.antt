@@ -12,7 +12,6 @@ use Rattle.calendar.proofs.Booleans.{and_both}
 use Rattle.hours.specs.Schedules.{is_entry, all_entries}
 use Rattle.text.specs.Text.{bytes_of, place_of, lines_from}
 use Rattle.text.proofs.Laws.{first_line}
-use Rattle.text.proofs.Lists.{rest_is}
 use Rattle.grammar.specs.Grammar.{begins_with, keyed}
 use Rattle.grammar.proofs.Texts.{keyed_yes}
 use Rattle.loading.specs.Loading.{is_period_digit, all_period_digits, periods_in, schedule_lines, all_good, all_given}
@@ -95,7 +94,7 @@ unfolding line_of
 line_gives key e h =
     let digits = map (λ p. p + 48) e in
     keyed_yes key periods_in (key ++ digits) (begins_own key digits)
-    ∙ rw (rest_is, drop-append_seam key digits, periods_are digits (length-map e (λ p. p + 48) ∙ h.0) (entries_digits e h.1)) (digits_back e)
+    ∙ rw (drop-append_seam key digits, periods_are digits (length-map e (λ p. p + 48) ∙ h.0) (entries_digits e h.1)) (digits_back e)
 
 -- Four rows that are written as lines are read, whatever ends the last one.
 abbrev pub rows_text : List ℕ → List ℕ → List ℕ → List ℕ → List ℕ

@@ -1,22 +1,22 @@
 -- What the private functions promise each other. No public contract cites this file.
-use Rattle.std.specs.Prelude.{◌≡◌, Bool, true, not, List, [], map, ℕ, ◌-◌, ◌*◌, eqb, length, get_or}
-use Rattle.std.proofs.lemmas.List.Edits.{sets}
+use Rattle.std.specs.Prelude.{◌≡◌, true, false, List, [], ◌∷◌, ◌++◌, ℕ}
+use Rattle.std.specs.List.{flat_map}
 use Rattle.text.specs.Text.{lines_from}
-use Rattle.loading.specs.Loading.{all_period_digits, schedule_lines, all_good, all_given}
+use Rattle.grammar.specs.Grammar.{keyed}
+use Rattle.loading.specs.Loading.{periods_in, schedule_lines, all_good, all_given}
 
--- What a line gives as line row + 1.
-unfoldable pub line_given : ℕ → List ℕ → List ℕ
-line_given row l = get_or schedule_lines row (λ l. []) l
+-- The first line of a text isn't good by a key, whatever the lines behind it are; or it gives a row, and a rest of the text is behind it.
+abbrev pub RowRefused : List ℕ → List ℕ → Type 0
+RowRefused key text = (reads : List (List ℕ → List ℕ)) → all_good (keyed key periods_in ∷ reads) (lines_from [] text) ≡ false
 
--- Digits were read, a line, and all lines of a text: whether they are good, and the entries after it where they are.
-pub record PeriodsRead (digits entries : List ℕ) (first : ℕ) (after : List ℕ) (r : Bool) : Type 0 where
-  pub good : r ≡ all_period_digits digits
-  pub given : r ≡ true → after ≡ sets entries first (map (λ b. b - 48) digits)
+pub record RowRead (key text row rest : List ℕ) : Type 0 where
+  pub good : (reads : List (List ℕ → List ℕ)) → all_good (keyed key periods_in ∷ reads) (lines_from [] text) ≡ all_good reads (lines_from [] rest)
+  pub given : (reads : List (List ℕ → List ℕ)) → all_given (keyed key periods_in ∷ reads) (lines_from [] text) ≡ row ++ all_given reads (lines_from [] rest)
 
-pub record LineRead (row : ℕ) (line entries after : List ℕ) (r : Bool) : Type 0 where
-  pub good : r ≡ not (eqb (length (line_given row line)) 0)
-  pub given : r ≡ true → after ≡ sets entries (96 * row) (line_given row line)
+-- The lines of a text aren't those of a schedule, or they are and give rows.
+abbrev pub RowsRefused : List ℕ → Type 0
+RowsRefused text = all_good schedule_lines (lines_from [] text) ≡ false
 
-pub record LinesRead (text after : List ℕ) (r : Bool) : Type 0 where
-  pub good : r ≡ all_good schedule_lines (lines_from [] text)
-  pub given : r ≡ true → after ≡ all_given schedule_lines (lines_from [] text)
+pub record RowsRead (text : List ℕ) (rows : List (List ℕ)) : Type 0 where
+  pub good : all_good schedule_lines (lines_from [] text) ≡ true
+  pub given : flat_map (λ row. row) rows ≡ all_given schedule_lines (lines_from [] text)

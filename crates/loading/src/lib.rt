@@ -1,119 +1,78 @@
 // Loads a schedule from a text.
 #![tactic(auto)]
 
-ghost use Rattle.std.specs.Prelude.{◌≡◌, cond, ◌+◌, ◌≤◌, ◌<◌, length};
-ghost use Rattle.loading.specs.Loading.{load_number, table_after};
-ghost use Rattle.loading.specs.Reading.{PeriodsRead, LineRead, LinesRead};
+ghost use Rattle.std.specs.Prelude.{◌≡◌, [], MatchOption, unwrap_or};
+ghost use Rattle.loading.specs.Loading.{periods_in, load_number, table_after};
+ghost use Rattle.loading.specs.Reading.{RowRefused, RowRead, RowsRefused, RowsRead};
 
-// The lines of a schedule, what each gives, and the bytes of its key, which are as many for each.
-const LINES: usize = 4;
-
+// The quarters of a row's line, and the rows.
 const QUARTERS: usize = 96;
 
-const KEY_LENGTH: usize = 15;
+const ROWS: usize = 4;
 
-const NEWLINE: u8 = 10;
-
-// The digits that write a period, and the one that writes 0.
-const FIRST_DIGIT: u8 = 49;
-
-const LAST_DIGIT: u8 = 51;
-
-const DIGIT_ZERO: u8 = 48;
-
-// The numbers that a load answers.
+// The numbers that a load answers: a rule, as the table of refusals has them.
 const LOADED: u32 = 0;
 
 const REFUSED: u32 = 15;
 
-// Stores the periods that digits write, from an entry on, and says whether all digits are of periods.
-fn read_periods(digits: &[u8], entries: &mut [u8], first: usize) -> bool
-    requires { first + length digits.now ≤ length entries.old }
-    ensures { PeriodsRead digits.now entries.old first entries.new result }
+// The periods that digits write, if they are those of a row.
+fn periods_in(digits: &[u8]) -> Option<[u8; QUARTERS]>
+    ensures { unwrap_or result [] ≡ periods_in digits.now }
 {
-    let mut place = 0;
-    while place < digits.len() {
-        let digit = digits[place];
-        if digit < FIRST_DIGIT {
-            return false;
-        }
-        if LAST_DIGIT < digit {
-            return false;
-        }
-        entries[first + place] = digit - DIGIT_ZERO;
-        place += 1;
+    if digits.len() != QUARTERS {
+        return None;
     }
-    true
+    let mut periods = [0; QUARTERS];
+    for (place, digit) in digits.iter().enumerate() {
+        match digit {
+            b'1'..=b'3' => periods[place] = digit - b'0',
+            _ => return None,
+        }
+    }
+    Some(periods)
 }
 
-// Stores what a line gives as the line of a row, and says whether it is good.
-fn read_line(line: &[u8], row: usize, entries: &mut [u8]) -> bool
-    requires row_bound { row < 4 }
-    requires entries_len { length entries.old ≡ 384 }
-    ensures { LineRead row line.now entries.old entries.new result }
+// The row that the first line of a text gives by its key, and the text behind that line.
+fn row_in<'a>(text: &'a [u8], key: &[u8]) -> Option<([u8; QUARTERS], &'a [u8])>
+    ensures { MatchOption result (RowRefused key.now text.now) (λ read. RowRead key.now text.now read.0 read.1.now) }
 {
-    if line.len() != KEY_LENGTH + QUARTERS {
-        return false;
+    if text.is_empty() {
+        return None;
     }
-    let keys = *b"winter-weekday=winter-weekend=summer-weekday=summer-weekend=";
-    let begin = KEY_LENGTH * row;
-    let end = begin + KEY_LENGTH;
-    if !grammar::begins_with(line, &keys[begin..end]) {
-        return false;
-    }
-    read_periods(&line[KEY_LENGTH..], entries, QUARTERS * row)
+    let end = text::place_of(b'\n', text);
+    let row = periods_in(grammar::after_key(&text[..end], key)?)?;
+    Some((row, &text[text.len().min(end + 1)..]))
 }
 
-// Stores what the lines of a text give, and says whether there are four good ones and no more.
-fn read_lines(text: &[u8], entries: &mut [u8]) -> bool
-    requires { length entries.old ≡ 384 }
-    ensures { LinesRead text.now entries.new result }
+// The rows that the lines of a text give, if there are four good ones and no more.
+fn rows_in(text: &[u8]) -> Option<[[u8; QUARTERS]; ROWS]>
+    ensures { MatchOption result (RowsRefused text.now) (RowsRead text.now) }
 {
-    let mut row = 0;
-    let mut start = 0;
-    while row < LINES {
-        if text.len() <= start {
-            return false;
-        }
-        let end = start + text::place_of(NEWLINE, &text[start..]);
-        if !read_line(&text[start..end], row, entries) {
-            return false;
-        }
-        start = end + 1;
-        row += 1;
-    }
-    text.len() <= start
+    let (winter_weekday, rest) = row_in(text, b"winter-weekday=")?;
+    let (winter_weekend, rest) = row_in(rest, b"winter-weekend=")?;
+    let (summer_weekday, rest) = row_in(rest, b"summer-weekday=")?;
+    let (summer_weekend, rest) = row_in(rest, b"summer-weekend=")?;
+    rest.is_empty().then_some([
+        winter_weekday,
+        winter_weekend,
+        summer_weekday,
+        summer_weekend,
+    ])
 }
 
-// Stores entries in a table where all are good, and otherwise leaves it as it is.
-fn store(entries: &[u8], good: bool, table: &mut [u8])
-    requires { length table.old ≡ length entries.now }
-    ensures { table.new ≡ cond good entries.now table.old }
-{
-    if !good {
-        return;
-    }
-    let mut place = 0;
-    while place < entries.len() {
-        table[place] = entries[place];
-        place += 1;
-    }
-}
-
-// Loads a schedule from four lines into a table: 0, or 15 and the table unaltered. The lines are read into entries aside, since the last one may be bad.
+// Loads a schedule from four lines into a table: 0, or 15 and the table unaltered. The rows are read aside, since the last one may be bad.
 pub fn load(text: &[u8], table: &mut [u8]) -> u32
     ensures value { result ≡ load_number text.now table.old }
     ensures table_after { table.new ≡ table_after text.now table.old }
-    ensures text_value { text.now ≡ text.now }
 {
     if table.len() != hours::SCHEDULE_LENGTH {
         return REFUSED;
     }
-    let mut entries = [0; hours::SCHEDULE_LENGTH];
-    let good = read_lines(text, &mut entries);
-    store(&entries, good, table);
-    if good {
-        return LOADED;
+    match rows_in(text) {
+        Some(rows) => {
+            table.copy_from_slice(rows.as_flattened());
+            LOADED
+        }
+        None => REFUSED,
     }
-    REFUSED
 }

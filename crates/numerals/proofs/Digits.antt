@@ -1,6 +1,6 @@
 -- A number, digit after digit.
 use mathlib.Core.Path.{◌≡◌, refl}
-use mathlib.Core.Bool.{Bool, true, false, cond, and-false}
+use mathlib.Core.Bool.{Bool, true, false, cond, ◌&&◌, and-false}
 use mathlib.Core.List.{List, [], ◌∷◌}
 use Prim.Native.Nat.{ℕ, ◌+◌, ◌-◌, ◌*◌, ◌^◌, ◌≤◌, ◌<◌}
 use native.Mathlib.Numerals.{add-one}
@@ -8,25 +8,13 @@ use native.Mathlib.Omega.{arith}
 use borrow.Author.Tests.{lt-ltb, le-ltb, le-leb, lt-leb}
 use lib.ListN.{length, get_or, drop, drop_of_length-le}
 use lib.Seq.{drop-cons}
-use Rattle.numerals.specs.Numerals.{all_digits, value_after, value_of, is_number, number_in}
-use Rattle.numerals.specs.declared.Numbers.{Numbers}
-use Rattle.numerals.specs.Reading.{numbers_as}
+use Rattle.numerals.specs.Numerals.{is_digit, all_digits, value_after, value_of, is_number, number_in}
 
 module _ (i : ℕ) (l : List ℕ) where
-  -- There is a digit at a place, so the rest decides; or there is none.
-  pub digits_next : i < length l → 48 ≤ get_or l i 0 → get_or l i 0 ≤ 57 → all_digits (drop i l) ≡ all_digits (drop (i + 1) l)
+  -- The byte at a place and the rest decide.
+  pub digits_at : i < length l → all_digits (drop i l) ≡ (is_digit (get_or l i 0) && all_digits (drop (i + 1) l))
   unfolding all_digits
-  digits_next h p q = rw (drop-cons l i 0 h, add-one i) (simp (le-leb _ _ p, le-leb _ _ q))
-
-  pub digits_low : i < length l → get_or l i 0 < 48 → all_digits (drop i l) ≡ false
-  unfolding all_digits
-  digits_low h p = rw (drop-cons l i 0 h) (simp (lt-leb _ _ p))
-
-  pub digits_high : i < length l → 57 < get_or l i 0 → all_digits (drop i l) ≡ false
-  unfolding all_digits
-  digits_high h p =
-      let q : 48 ≤ get_or l i 0 = omega arith in
-      rw (drop-cons l i 0 h) (simp (le-leb _ _ q, lt-leb _ _ p))
+  digits_at h = rw (drop-cons l i 0 h, add-one i)
 
   -- Nothing is left.
   pub digits_end : length l ≤ i → all_digits (drop i l) ≡ true
@@ -75,24 +63,19 @@ module _ (l : List ℕ) where
   unfolding is_number number_in
   number_is p q d h = simp (le-leb _ _ p, le-leb _ _ q, d, lt-ltb _ _ h)
 
--- What was read of a part tells whether it is a number, and its value.
-module _ (l : List ℕ) (r : Numbers) (e : r ≡ numbers_as (number_in l)) where
-  pub read_none : r.count ≡ 0 → is_number l ≡ false
+  -- What was read of a text tells whether it is a number, and its value.
+  pub read_none : ◌≡◌ {A = List ℕ} [] (number_in l) → is_number l ≡ false
   unfolding number_in
-  read_none = rw e (by (is_number l))
+  read_none = by (is_number l)
     where
-      by : (t : Bool) → length (cond t (value_of l ∷ []) []) ≡ 0 → t ≡ false
-      by true e = absurd (omega arith)
+      by : (t : Bool) → ◌≡◌ {A = List ℕ} [] (cond t (value_of l ∷ []) []) → t ≡ false
+      by true e = cc
       by false e = refl
 
-  pub read_some : (r.count ≡ 0 → ⊥) → is_number l ≡ true
+  pub read_some : (v : ℕ) → v ∷ [] ≡ number_in l → (is_number l ≡ true) × (v ≡ value_of l)
   unfolding number_in
-  read_some = rw e (by (is_number l))
+  read_some v = by (is_number l)
     where
-      by : (t : Bool) → (length (cond t (value_of l ∷ []) []) ≡ 0 → ⊥) → t ≡ true
-      by true h = refl
-      by false h = absurd (h refl)
-
-  pub read_value : (r.count ≡ 0 → ⊥) → r.first ≡ value_of l
-  unfolding number_in
-  read_value h = rw (e, read_some h)
+      by : (t : Bool) → v ∷ [] ≡ cond t (value_of l ∷ []) [] → (t ≡ true) × (v ≡ value_of l)
+      by true e = (refl, cc)
+      by false e = cc

@@ -1,19 +1,15 @@
 -- The parts between commas, one after the other, and the numbers that they are.
-use mathlib.Core.Path.{◌≡◌, refl, sym, ◌∙◌}
-use mathlib.Core.Bool.{Bool, true, false, cond, ◌&&◌, and-true}
-use mathlib.Core.List.{List, [], ◌∷◌, map}
+use mathlib.Core.Path.{◌≡◌, refl, sym, ap, ◌∙◌}
+use mathlib.Core.Bool.{Bool, true, false, false≢true, cond, ◌&&◌}
+use mathlib.Core.List.{List, [], ◌∷◌, ◌++◌, map, append_assoc}
 use Prim.Native.Nat.{ℕ, zero, suc, ◌+◌, ◌-◌, ◌≤◌, ◌<◌}
 use native.Mathlib.Numerals.{add-one}
 use native.Mathlib.Omega.{arith}
-use borrow.Author.Tests.{ne_eqb, eqb-true, leb-true, leb-false, le-leb}
-use lib.Dec.{eqb, leb, leb-suc-suc}
-use lib.ListN.{length, take, drop, length-map}
-use lib.Seq.{take_all}
+use borrow.Author.Tests.{eqb-true, leb-true, leb-false, le-leb}
+use lib.Dec.{eqb, leb}
+use lib.ListN.{length, take, drop, length-map, length-append, length-drop}
 use Rattle.text.specs.Text.{place_of}
-use Rattle.numerals.specs.declared.Numbers.{Numbers}
-use Rattle.numerals.specs.Numerals.{value_of, is_number, number_in, on_first, parts_of, all_numbers, numbers_in, numbers_up_to}
-use Rattle.numerals.specs.Reading.{numbers_as}
-use Rattle.numerals.specs.Joining.{led_by}
+use Rattle.numerals.specs.Numerals.{value_of, is_number, on_first, parts_of, all_numbers, numbers_in, numbers_up_to}
 use Rattle.text.proofs.Lists.{rest_is}
 
 pub on_first_count : (b : ℕ) (ps : List (List ℕ)) → length (on_first b ps) ≡ length ps
@@ -70,42 +66,61 @@ pub up_to_count : (n : ℕ) (l : List ℕ) → length (numbers_up_to n l) ≤ n
 up_to_count n l =
     up_to_either (λ xs. length xs ≤ n) n l (omega arith) (λ few numbers. omega (arith, length-map (parts_of l) value_of))
 
-pub counted : (n : ℕ) (l : List ℕ) (a : Numbers) → a ≡ numbers_as (numbers_up_to n l) → a.count ≤ n
-counted n l a e = rw e (up_to_count n l)
+-- Too many parts, or one that is no number.
+pub up_to_many : (n : ℕ) (l : List ℕ) → n < length (parts_of l) → numbers_up_to n l ≡ []
+up_to_many n l h = up_to_either (λ xs. xs ≡ []) n l refl (λ few numbers. absurd (omega arith))
 
-pub up_to_none : (l : List ℕ) → numbers_up_to 0 l ≡ []
-up_to_none l = up_to_either (λ xs. xs ≡ []) 0 l refl (λ few numbers. absurd (omega (arith, parts_some l)))
+pub up_to_bad : (n : ℕ) (l : List ℕ) → all_numbers (parts_of l) ≡ false → numbers_up_to n l ≡ []
+up_to_bad n l h = up_to_either (λ xs. xs ≡ []) n l refl (λ few numbers. absurd (false≢true (sym h ∙ numbers)))
 
-pub up_to_last : (n k : ℕ) (l : List ℕ) → (n ≡ 0 → ⊥) → k ≡ place_of 44 l → k ≡ length l → number_in (take k l) ≡ numbers_up_to n l
-unfolding numbers_up_to all_numbers number_in
-up_to_last n k l z p e =
-    rw (take_all k l (omega arith), parts_last l (sym p ∙ e), le-leb 1 n (omega arith), and-true (is_number l))
+-- Numbers xs were read of a text, and a rest of it is left.
+pub record Read (text xs rest : List ℕ) : Type 0 where
+  pub count : length (parts_of text) ≡ length xs + length (parts_of rest)
+  pub numbers : all_numbers (parts_of text) ≡ all_numbers (parts_of rest)
+  pub values : map value_of (parts_of text) ≡ xs ++ map value_of (parts_of rest)
+  pub within : length rest ≤ length text
 
--- A number before others.
-led : (same first rest : Bool) (v : ℕ) (vs : List ℕ) → 1 ≤ length vs
-    → numbers_as (cond (same && (first && rest)) (v ∷ vs) [])
-    ≡ led_by (numbers_as (cond first (v ∷ []) [])) (numbers_as (cond (same && rest) vs []))
-unfolding led_by
-led true true true v [] h = absurd (omega arith)
-led true true true v (x ∷ vs) h = rw (ne_eqb (suc (length vs)) 0 (λ e. omega arith), add-one (suc (length vs)))
-led true true false v vs h = refl
-led true false rest v vs h = refl
-led false true rest v vs h = refl
-led false false rest v vs h = refl
+pub read_first : (text : List ℕ) → Read text [] text
+read_first text = record { count = omega arith; numbers = refl; values = refl; within = omega arith }
 
-pub up_to_more : (n k : ℕ) (l : List ℕ) (a b : Numbers) → (n ≡ 0 → ⊥) → k ≡ place_of 44 l → k < length l
-    → a ≡ numbers_as (number_in (take k l))
-    → b ≡ numbers_as (numbers_up_to (n - 1) (take (length l - (k + 1)) (drop (k + 1) l)))
-    → led_by a b ≡ numbers_as (numbers_up_to n l)
-unfolding numbers_up_to number_in all_numbers
-up_to_more zero k l a b z e h x y = absurd (z refl)
-up_to_more (suc m) k l a b z e h x y =
-    let less : suc m - 1 ≡ m = omega arith in
-    let p = take k l in
-    let ps = parts_of (drop (suc k) l) in
-    let some : 1 ≤ length (map value_of ps) = omega (arith, length-map ps value_of, parts_some (drop (suc k) l)) in
-    rw (x, y, less, rest_is (k + 1) l, parts_more l (omega arith), ← e, add-one k, leb-suc-suc (length ps) m)
-    (sym (led (leb (length ps) m) (is_number p) (all_numbers ps) (value_of p) (map value_of ps) some))
+module _ {text xs rest : List ℕ} (r : Read text xs rest) where
+  -- There is room for no more numbers.
+  pub read_full : (n : ℕ) → length xs ≡ n → numbers_up_to n text ≡ []
+  read_full n e = up_to_many n text (omega (arith, r.count, parts_some rest))
+
+  -- What stands before a comma is no number, or one.
+  module _ (k : ℕ) (e : k ≡ place_of 44 rest) (h : k < length rest) where
+    parts_are : parts_of rest ≡ take k rest ∷ parts_of (drop (k + 1) rest)
+    parts_are = rw (e, add-one) (parts_more rest (omega (arith, e)))
+
+    pub read_bad : (n : ℕ) → is_number (take k rest) ≡ false → numbers_up_to n text ≡ []
+    unfolding all_numbers
+    read_bad n f = up_to_bad n text (r.numbers ∙ rw (parts_are, f))
+
+    pub read_more : (v : ℕ) → is_number (take k rest) ≡ true → v ≡ value_of (take k rest)
+        → Read text (xs ++ v ∷ []) (take (length rest - (k + 1)) (drop (k + 1) rest))
+    unfolding all_numbers
+    read_more v f is =
+        rw (rest_is (k + 1) rest)
+        (record {
+          count = r.count ∙ rw (parts_are, length-append) (omega arith);
+          numbers = r.numbers ∙ rw (parts_are, f);
+          values = r.values ∙ rw (parts_are, append_assoc, is);
+          within = omega (arith, r.within, length-drop (k + 1) rest);
+        })
+
+  -- Likewise where no comma is left.
+  module _ (e : place_of 44 rest ≡ length rest) where
+    pub last_bad : (n : ℕ) → is_number rest ≡ false → numbers_up_to n text ≡ []
+    unfolding all_numbers
+    last_bad n f = up_to_bad n text (r.numbers ∙ rw (parts_last rest e, f))
+
+    pub last_good : (n v : ℕ) → is_number rest ≡ true → v ≡ value_of rest → length xs < n → xs ++ v ∷ [] ≡ numbers_up_to n text
+    unfolding all_numbers numbers_up_to
+    last_good n v f is h =
+        let one = parts_last rest e in
+        let few : length (parts_of text) ≤ n = omega (arith, r.count, ap length one) in
+        rw (le-leb _ _ few, r.numbers, r.values, one, f, is)
 
 -- So many numbers are those of up to so many, where there are so many.
 pub numbers_are : (n : ℕ) (l : List ℕ) → numbers_in n l ≡ cond (eqb (length (numbers_up_to n l)) n) (numbers_up_to n l) []

@@ -1,23 +1,24 @@
 -- A template filled in byte by byte.
 use mathlib.Core.Path.{◌≡◌, refl, ◌∙◌, sym, ap}
 use mathlib.Core.List.{List, [], ◌∷◌, ◌++◌}
-use Prim.Native.Nat.{ℕ, ◌+◌, ◌≤◌, ◌<◌}
+use Prim.Native.Nat.{ℕ, ◌+◌, ◌-◌, ◌≤◌, ◌<◌}
 use native.Mathlib.Numerals.{add-one}
 use native.Mathlib.Omega.{arith}
 use borrow.Author.Tests.{eq-eqb, ne_eqb}
-use lib.ListN.{length, get_or, drop, set, drop_of_length-le, length-append, length-set}
-use lib.Seq.{sets, drop-cons}
+use borrow.Rule.Slice.PartMut.{put_mid}
+use lib.ListN.{length, get_or, take, drop, set, drop_of_length-le, length-append, length-set}
+use lib.Seq.{sets, drop-cons, length-sets}
 use Rattle.printing.specs.Text.{decimal, filled_in, most_bytes}
 use Rattle.printing.specs.Writing.{Wrote}
 use Rattle.text.proofs.Lists.{sets-append}
-use Rattle.printing.proofs.Writing.{digits_within}
+use Rattle.printing.proofs.Writing.{digits_length, wrote_part}
 
--- From place p of a template and number k on, what is left is written from place j on, and there is room for it.
-pub record Filling (t ns : List ℕ) (out₀ : List ℕ) (i : ℕ) (out : List ℕ) (j k p : ℕ) : Type 0 where
+-- From place p of a template on, with the numbers ms left, what is left is written from place j on, and there is room for it.
+pub record Filling (t ns out₀ out : List ℕ) (j : ℕ) (ms : List ℕ) (p : ℕ) : Type 0 where
   pub kept : length out ≡ length out₀
   pub room : j + most_bytes (drop p t) ≤ length out
-  pub bytes : sets out j (filled_in (drop p t) (drop k ns)) ≡ sets out₀ i (filled_in t ns)
-  pub end : j + length (filled_in (drop p t) (drop k ns)) ≡ i + length (filled_in t ns)
+  pub bytes : sets out j (filled_in (drop p t) ms) ≡ sets out₀ 0 (filled_in t ns)
+  pub end : j + length (filled_in (drop p t) ms) ≡ length (filled_in t ns)
 
 -- A byte that is no mark is put as it is,
 filled_byte : (b : ℕ) (t ns : List ℕ) → (b ≡ 35 → ⊥) → filled_in (b ∷ t) ns ≡ b ∷ filled_in t ns
@@ -35,6 +36,10 @@ filled_number : (b : ℕ) (t : List ℕ) (n : ℕ) (ns : List ℕ) → b ≡ 35 
 unfolding filled_in
 filled_number b t n ns e = rw (eq-eqb b 35 e)
 
+no_number : (ms : List ℕ) → length ms ≡ 0 → ms ≡ []
+no_number [] e = refl
+no_number (m ∷ ms) e = absurd (omega arith)
+
 -- The room that a byte and a mark take.
 most_byte : (b : ℕ) (t : List ℕ) → (b ≡ 35 → ⊥) → most_bytes (b ∷ t) ≡ 1 + most_bytes t
 unfolding most_bytes
@@ -45,17 +50,17 @@ unfolding most_bytes
 most_mark b t e = rw (eq-eqb b 35 e)
 
 -- At first the whole template is left.
-pub starts : (t ns out : List ℕ) (i : ℕ) → i + most_bytes t ≤ length out → Filling t ns out i out i 0 0
-starts t ns out i h = record { kept = refl; room = h; bytes = refl; end = refl }
+pub starts : (t ns out : List ℕ) → most_bytes t ≤ length out → Filling t ns out out 0 ns 0
+starts t ns out h = record { kept = refl; room = omega arith; bytes = refl; end = omega arith }
 
 -- Once no byte of the template is left, all is written.
-pub ends : {t ns out₀ out : List ℕ} {i j k p : ℕ} → Filling t ns out₀ i out j k p → length t ≤ p → Wrote out₀ i (filled_in t ns) out j
+pub ends : {t ns out₀ out ms : List ℕ} {j p : ℕ} → Filling t ns out₀ out j ms p → length t ≤ p → Wrote out₀ 0 (filled_in t ns) out j
 unfolding filled_in
 ends {t} {p = p} g h =
     let none = drop_of_length-le t h in
     record { bytes = rw none at g.bytes; end = let e = rw none at g.end in omega arith }
 
-module _ {t ns out₀ out : List ℕ} {i j k p : ℕ} (g : Filling t ns out₀ i out j k p) (h : p < length t) where
+module _ {t ns out₀ out ms : List ℕ} {j p : ℕ} (g : Filling t ns out₀ out j ms p) (h : p < length t) where
   -- The template's bytes from place p on.
   ahead : drop p t ≡ get_or t p 0 ∷ drop (p + 1) t
   ahead = rw add-one (drop-cons t p 0 h)
@@ -69,9 +74,9 @@ module _ {t ns out₀ out : List ℕ} {i j k p : ℕ} (g : Filling t ns out₀ i
   room_mark m = let e = ap most_bytes ahead ∙ most_mark _ (drop (p + 1) t) m in let r = g.room in omega arith
 
   -- A byte is written as it is,
-  pub then_byte : (get_or t p 0 ≡ 35 → ⊥) → Filling t ns out₀ i (set out j (get_or t p 0)) (j + 1) k (p + 1)
+  pub then_byte : (get_or t p 0 ≡ 35 → ⊥) → Filling t ns out₀ (set out j (get_or t p 0)) (j + 1) ms (p + 1)
   then_byte f =
-      let e = ap (λ (l : List ℕ). filled_in l (drop k ns)) ahead ∙ filled_byte _ (drop (p + 1) t) (drop k ns) f in
+      let e = ap (λ (l : List ℕ). filled_in l ms) ahead ∙ filled_byte _ (drop (p + 1) t) ms f in
       record {
         kept = length-set out j (get_or t p 0) ∙ g.kept;
         room = rw length-set (room_byte f);
@@ -80,30 +85,33 @@ module _ {t ns out₀ out : List ℕ} {i j k p : ℕ} (g : Filling t ns out₀ i
       }
 
   -- nothing for a mark where no number is left,
-  pub then_none : get_or t p 0 ≡ 35 → length ns ≤ k → Filling t ns out₀ i out j k (p + 1)
-  then_none m l =
-      let none = drop_of_length-le ns l in
+  pub then_none : {ls : List ℕ} → get_or t p 0 ≡ 35 → length ms ≡ 0 → ls ≡ ms → Filling t ns out₀ out j ls (p + 1)
+  then_none {ls} m l s =
+      let none : ms ≡ [] = no_number ms l in
       let e = ap (λ (l : List ℕ). filled_in l []) ahead ∙ filled_none _ (drop (p + 1) t) m in
+      rw (s, none)
       record {
         kept = g.kept;
         room = let r = room_mark m in omega arith;
-        bytes = rw none (rw (none, e) at g.bytes);
-        end = rw none (rw (none, e) at g.end);
+        bytes = rw (none, e) at g.bytes;
+        end = rw (none, e) at g.end;
       }
 
-  -- and otherwise the digits of the next number.
-  pub then_number : {o : List ℕ} {e : ℕ} → get_or t p 0 ≡ 35 → k < length ns → Wrote out j (decimal (get_or ns k 0)) o e
-      → length o ≡ length out
-      → Filling t ns out₀ i o e (k + 1) (p + 1)
-  then_number {o} {e} m l w s =
-      let n = get_or ns k 0 in
-      let rest = filled_in (drop (p + 1) t) (drop (k + 1) ns) in
-      let next : drop k ns ≡ n ∷ drop (k + 1) ns = rw add-one (drop-cons ns k 0 l) in
-      let f : filled_in (drop p t) (drop k ns) ≡ decimal n ++ rest =
-      rw (ahead, next) (filled_number _ (drop (p + 1) t) n (drop (k + 1) ns) m) in
+  -- and otherwise the digits of the next number, in what is left of the buffer.
+  pub then_number : {part ls : List ℕ} {n q : ℕ} → get_or t p 0 ≡ 35 → ms ≡ n ∷ ls
+      → Wrote (take (length out - j) (drop j out)) 0 (decimal n) part q
+      → Filling t ns out₀ (put_mid j (length out - j) out part) (j + q) ls (p + 1)
+  then_number {part} {ls} {n} {q} m s v =
+      let rest = filled_in (drop (p + 1) t) ls in
+      let r = room_mark m in
+      let after = put_mid j (length out - j) out part in
+      let w : Wrote out j (decimal n) after (j + q) = wrote_part (omega arith) v in
+      let same : length after ≡ length out = ap length w.bytes ∙ length-sets out j (decimal n) in
+      let f : filled_in (drop p t) ms ≡ decimal n ++ rest =
+      rw (ahead, s) (filled_number _ (drop (p + 1) t) n ls m) in
       record {
-        kept = s ∙ g.kept;
-        room = let r = room_mark m in let d = digits_within 20 n w in omega arith;
+        kept = same ∙ g.kept;
+        room = let d = digits_length 20 n in let e = w.end in omega arith;
         bytes = rw (w.bytes, w.end) (sym (sets-append out j (decimal n) rest) ∙ rw f at g.bytes);
         end = let a = rw (f, length-append) at g.end in let b = w.end in omega arith;
       }

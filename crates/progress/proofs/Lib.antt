@@ -1,5 +1,5 @@
+mod Expecting
 mod Storing
 mod Lines
-mod Opening
-mod Runs
+mod Kept
 pub mod RunLines

@@ -1,65 +1,178 @@
 -- Run lines at the front of an input, over plain values. l is the input, n how many readings there are.
 use mathlib.Core.Path.{◌≡◌, refl, sym, ◌∙◌, ap, subst}
 use mathlib.Core.Bool.{Bool, true, false, cond, ◌&&◌}
-use mathlib.Core.List.{List, []}
-use Prim.Native.Nat.{ℕ, zero, suc, ◌+◌, ◌-◌, ◌≤◌, ◌<◌, min}
+use mathlib.Core.List.{List, [], ◌∷◌}
+use Prim.Native.Nat.{ℕ, zero, suc, ◌+◌, ◌-◌, ◌≤◌, ◌<◌}
 use native.Mathlib.Omega.{arith}
 use borrow.Author.Tests.{leb-true, le-leb, lt-leb, eqb-true, eqb-false, eq-eqb, ne_eqb}
 use lib.Dec.{eqb, leb}
-use lib.ListN.{length, get_or, take, drop, replicate, length-take, length-drop}
-use lib.Seq.{sets, take_all, drop-drop}
+use lib.ListN.{length, get_or, take, drop, length-take, length-drop}
+use lib.Seq.{take_all, drop-drop}
+use Rattle.std.specs.Prelude.{Option, Some, None, is_some, OnSome, IfNone}
 use Rattle.text.specs.Text.{place_of}
-use Rattle.numerals.specs.declared.Numbers.{Numbers}
-use Rattle.grammar.specs.Grammar.{run_line}
-use Rattle.numerals.specs.Reading.{numbers_as}
-use Rattle.progress.specs.declared.Run.{Run}
+use Rattle.grammar.specs.Grammar.{run_line, bill_line}
+use Rattle.progress.specs.declared.readings.Run.{Run}
+use Rattle.progress.specs.declared.readings.Readings.{Readings}
+use Rattle.progress.specs.declared.RunLine.{RunLine}
 use Rattle.progress.specs.declared.Progress.{Progress}
-use Rattle.lines.specs.Statement.{State, Outcome, outcome, next_number, counted, with_run, line_read}
-use Rattle.lines.specs.Feeding.{Registers, registers_of, with_readings}
-use Rattle.progress.specs.Progressing.{state_of, line_at, is_run, is_run_expected, runs_bytes, runs_state, RunsRead}
-use Rattle.progress.specs.Ending.{run_at, ran_to}
+use Rattle.progress.specs.declared.Text.TheVariants.{Nothing}
+use Rattle.lines.specs.Statement.{State, Outcome, outcome, fault, counted, with_run, run_read, run_or_bill_read, begun, month_end, line_read}
+use Rattle.lines.specs.Feeding.{Registers, with_readings}
+use Rattle.progress.specs.Expected.{number_of}
+use Rattle.progress.specs.Readings.{delivered_of, Adds, Refuses}
+use Rattle.progress.specs.Progressing.{state_of, registers_held, line_at, is_run, is_run_expected, runs_bytes, runs_state, RunsRead}
+use Rattle.progress.specs.Ending.{run_from, run_of, with_bytes, first_run, Steps, Changes}
 use Rattle.text.proofs.Laws.{place_within}
-use Rattle.progress.proofs.Storing.{stored_front, stored_both}
-use Rattle.progress.proofs.Lines.{least_taken}
-use Rattle.lines.proofs.Laws.{later_run, run_yes, expected_later}
+use Rattle.progress.proofs.Lines.{held_same, faulty}
+use Rattle.lines.proofs.Buffers.{readings_over}
+use Rattle.lines.proofs.Laws.{later_run, later_no, later_bill, run_no, run_yes, expected_later}
 
--- The tests, one after the other: p is where the first newline stands, x what the line gives.
-module _ (l : List ℕ) (n p : ℕ) (at : p ≡ place_of 10 l) where
-  at_none : is_run l n ≡ false → record { bytes = 0; count = 0; delivered = 0; received = 0 } ≡ run_at l n
-  unfolding run_at
-  at_none e = rw e
+-- The progress with other readings.
+abbrev pub reading : Progress → Readings → Progress
+reading x m =
+    record {
+      lines = x.lines;
+      expected = x.expected;
+      opening = x.opening;
+      account = x.account;
+      month = x.month;
+      critical = x.critical;
+      readings = m;
+    }
 
-  pub no_newline_lem : p ≡ length l → record { bytes = 0; count = 0; delivered = 0; received = 0 } ≡ run_at l n
+-- A run, and one that doesn't fit.
+pub run_added : (x : Progress) (run : Run) (m : Readings) → Adds x.readings run m
+    → Steps x (run_read run.count run.delivered run.received (state_of x)) (Some Nothing) (reading x m)
+unfolding with_readings
+run_added x run m w =
+    record {
+      outcome =
+          sym (run_yes run.count run.delivered run.received (state_of x) w.fits
+          ∙ rw (← w.delivered, ← w.received));
+      registers = w.registers;
+    }
+
+pub run_refused : (x : Progress) (run : Run) (m : Readings) → Refuses x.readings run m
+    → Steps x (run_read run.count run.delivered run.received (state_of x)) None (reading x m)
+run_refused x run m w =
+    let step = run_read run.count run.delivered run.received (state_of x) in
+    subst (λ (k : Readings). Steps x step None (reading x k)) (sym w.same)
+    (faulty x step (run_no run.count run.delivered run.received (state_of x) w.full))
+
+-- A line that is a readable run line, or isn't.
+pub run_is : (l v : List ℕ) → v ≡ run_line l → (length v ≡ 0 → ⊥) → Some (run_from v) ≡ run_of l
+unfolding run_of
+run_is l v e h = rw (← e, ne_eqb (length v) 0 h)
+
+pub run_not : (l : List ℕ) → [] ≡ run_line l → None ≡ run_of l
+unfolding run_of
+run_not l e = rw (← e)
+
+-- What that says of its numbers.
+pub some_numbers : (l : List ℕ) (run : Run) → Some run ≡ run_of l → (length (run_line l) ≡ 0 → ⊥) × (run ≡ run_from (run_line l))
+unfolding run_of
+some_numbers l run h = by (eqb (length (run_line l)) 0) refl h
+  where
+    by : (b : Bool) → eqb (length (run_line l)) 0 ≡ b → Some run ≡ cond b None (Some (run_from (run_line l)))
+        → (length (run_line l) ≡ 0 → ⊥) × (run ≡ run_from (run_line l))
+    by true p e = absurd (cc)
+    by false p e = (eqb-false (length (run_line l)) 0 p, cc)
+
+no_items : (v : List ℕ) → length v ≡ 0 → [] ≡ v
+no_items [] h = refl
+no_items (x ∷ v) h = absurd (omega arith)
+
+pub none_numbers : (l : List ℕ) → None ≡ run_of l → [] ≡ run_line l
+unfolding run_of
+none_numbers l h = by (eqb (length (run_line l)) 0) refl h
+  where
+    by : (b : Bool) → eqb (length (run_line l)) 0 ≡ b → None ≡ cond b None (Some (run_from (run_line l))) → [] ≡ run_line l
+    by true p e = no_items (run_line l) (eqb-true (length (run_line l)) 0 p)
+    by false p e = absurd (cc)
+
+-- A line after the critical line.
+module _ (l : List ℕ) (s : State) where
+  pub later_some : (run : Run) → Some run ≡ run_of l → run_or_bill_read l s ≡ run_read run.count run.delivered run.received s
+  later_some run h =
+      let w = some_numbers l run h in
+      later_run l s w.0
+      ∙ ap (λ (y : Run). run_read y.count y.delivered y.received s) (sym w.1)
+
+  module _ (h : None ≡ run_of l) where
+    pub later_none : [] ≡ bill_line l → run_or_bill_read l s ≡ fault s
+    later_none k = later_no l s (none_numbers l h) k
+
+    pub later_month : (n : ℕ) → n ∷ [] ≡ bill_line l → run_or_bill_read l s ≡ outcome (month_end s).text (begun n (month_end s).state)
+    later_month n k = later_bill l s n (none_numbers l h) k
+
+-- The run line at the front of an input.
+pub first_absent : (l : List ℕ) → length l ≡ place_of 10 l → None ≡ first_run l
+unfolding first_run
+first_absent l h = rw (eq-eqb (place_of 10 l) (length l) (sym h))
+
+module _ (l : List ℕ) (p : ℕ) (at : p ≡ place_of 10 l) (some : p < length l) (r : Option Run) (e : r ≡ run_of (take p l)) where
+  first_by : with_bytes (p + 1) r ≡ first_run l
+  unfolding first_run
+  first_by = rw (ne_eqb (place_of 10 l) (length l) (λ h. omega arith), ← at, ← e)
+
+  pub first_not : r ≡ None → None ≡ first_run l
+  first_not h = rw h at first_by
+
+  pub first_is : (run : Run) → r ≡ Some run → Some (record { bytes = p + 1; run = run }) ≡ first_run l
+  first_is run h = rw h at first_by
+
+-- What that says.
+pub record First (l : List ℕ) (line : RunLine) : Type 0 where
+  pub newline : place_of 10 l < length l
+  pub run : Some line.run ≡ run_of (line_at l)
+  pub bytes : line.bytes ≡ place_of 10 l + 1
+
+pub first_some : (l : List ℕ) (line : RunLine) → Some line ≡ first_run l → First l line
+unfolding first_run
+first_some l line h = by (eqb (place_of 10 l) (length l)) (run_of (line_at l)) refl refl h
+  where
+    by : (b : Bool) (r : Option Run) → eqb (place_of 10 l) (length l) ≡ b → run_of (line_at l) ≡ r
+        → Some line ≡ cond b None (with_bytes (place_of 10 l + 1) r) → First l line
+    by true r p q e = absurd (cc)
+    by false None p q e = absurd (cc)
+    by false (Some run) p q e =
+        let is : line ≡ record { bytes = place_of 10 l + 1; run = run } = cc in
+        record {
+          newline = omega (arith, place_within 10 l, eqb-false (place_of 10 l) (length l) p);
+          run = ap (λ (y : RunLine). Some y.run) is ∙ sym q;
+          bytes = ap (λ (y : RunLine). y.bytes) is;
+        }
+
+-- Where there is none, none is taken.
+pub first_none : (l : List ℕ) (n : ℕ) → None ≡ first_run l → is_run l n ≡ false
+unfolding first_run is_run
+first_none l n h = by (eqb (place_of 10 l) (length l)) (run_of (line_at l)) refl refl h
+  where
+    by : (b : Bool) (r : Option Run) → eqb (place_of 10 l) (length l) ≡ b → run_of (line_at l) ≡ r
+        → None ≡ cond b None (with_bytes (place_of 10 l + 1) r)
+        → cond (eqb (place_of 10 l) (length l)) false (cond (eqb (length (run_line (line_at l))) 0) false (leb (n + get_or (run_line (line_at l)) 0 0) 2976)) ≡ false
+    by true r p q e = rw p
+    by false None p q e = rw (p, eq-eqb (length (run_line (line_at l))) 0 (ap length (sym (none_numbers (line_at l) (sym q)))))
+    by false (Some run) p q e = absurd (cc)
+
+-- Where there is one, it is taken if it fits.
+module _ (l : List ℕ) (line : RunLine) (w : First l line) (n : ℕ) where
+  numbers : eqb (length (run_line (line_at l))) 0 ≡ false
+  numbers = ne_eqb (length (run_line (line_at l))) 0 (some_numbers (line_at l) line.run w.run).0
+
+  newline : eqb (place_of 10 l) (length l) ≡ false
+  newline = let h = w.newline in ne_eqb (place_of 10 l) (length l) (λ e. omega arith)
+
+  count : line.run.count ≡ get_or (run_line (line_at l)) 0 0
+  count = ap (λ (y : Run). y.count) (some_numbers (line_at l) line.run w.run).1
+
+  pub run_past : 2976 < n + line.run.count → is_run l n ≡ false
   unfolding is_run
-  no_newline_lem h = at_none (rw (eq-eqb (place_of 10 l) (length l) (sym at ∙ h)))
+  run_past h = rw (newline, numbers) (lt-leb (n + get_or (run_line (line_at l)) 0 0) 2976 (omega (arith, count)))
 
-  module _ (x : Numbers) (e : x ≡ numbers_as (run_line (take p l))) (some : p ≡ length l → ⊥) where
-    is : x ≡ numbers_as (run_line (line_at l))
-    is = rw at at e
-
-    newline : eqb (place_of 10 l) (length l) ≡ false
-    newline = ne_eqb (place_of 10 l) (length l) (λ h. some (at ∙ h))
-
-    pub no_numbers : x.count ≡ 0 → record { bytes = 0; count = 0; delivered = 0; received = 0 } ≡ run_at l n
-    unfolding is_run
-    no_numbers h = at_none (rw (newline, eq-eqb (length (run_line (line_at l))) 0 (sym (ap (λ (y : Numbers). y.count) is) ∙ h)))
-
-    module _ (read : x.count ≡ 0 → ⊥) where
-      numbers : eqb (length (run_line (line_at l))) 0 ≡ false
-      numbers = ne_eqb (length (run_line (line_at l))) 0 (λ q. read (ap (λ (y : Numbers). y.count) is ∙ q))
-
-      pub no_place : 2976 < n + x.first → record { bytes = 0; count = 0; delivered = 0; received = 0 } ≡ run_at l n
-      unfolding is_run
-      no_place h =
-          let first = ap (λ (y : Numbers). y.first) is in
-          at_none (rw (newline, numbers) (lt-leb (n + get_or (run_line (line_at l)) 0 0) 2976 (omega (arith, h, first))))
-
-      pub run_there : n + x.first ≤ 2976
-          → record { bytes = p + 1; count = x.first; delivered = x.second; received = x.third } ≡ run_at l n
-      unfolding is_run run_at
-      run_there h =
-          rw (newline, numbers, le-leb (n + get_or (run_line (line_at l)) 0 0) 2976 (omega (arith, h, ap (λ (y : Numbers). y.first) is)))
-          (rw (at, is))
+  pub run_there : n + line.run.count ≤ 2976 → is_run l n ≡ true
+  unfolding is_run
+  run_there h = rw (newline, numbers) (le-leb (n + get_or (run_line (line_at l)) 0 0) 2976 (omega (arith, count)))
 
 -- What holds of a run line that can be taken.
 pub record Fits (l : List ℕ) (n : ℕ) : Type 0 where
@@ -113,7 +226,7 @@ run_read_lem l s h =
     let f = expected_run l s h in
     let expected : s.expected ≡ 16 = f.0 in
     expected_later (line_at l) (counted s) (omega arith) (λ e. omega arith) (λ e. omega arith) expected
-    ∙ later_run (line_at l) (counted s) (numbers_as (run_line (line_at l))) refl f.1.read
+    ∙ later_run (line_at l) (counted s) f.1.read
     ∙ run_yes (get_or (run_line (line_at l)) 0 0) (get_or (run_line (line_at l)) 1 0) (get_or (run_line (line_at l)) 2 0) (counted s) f.1.fits
 
 pub run_quiet : (l : List ℕ) (s : State) → is_run_expected l s ≡ true → (line_read (line_at l) s).text ≡ []
@@ -195,12 +308,18 @@ running_start before s r input e k =
       registers = k;
     }
 
+-- They are all: as in `RunsRead`.
+pub record Ran (before : State) (r : Registers) (input : List ℕ) (taken : ℕ) (s : State) (q : Registers) : Type 0 where
+  pub takes : taken ≡ runs_bytes (length input) input before
+  pub state : s ≡ runs_state (length input) input before
+  pub registers : q ≡ with_readings s r
+
 -- The code lends what is left of the input.
 module _ (before s : State) (r q : Registers) (input : List ℕ) (taken : ℕ) (w : Running before r input taken s q) where
   rest_is : take (length input - taken) (drop taken input) ≡ drop taken input
   rest_is = take_all (length input - taken) (drop taken input) (omega (arith, length-drop taken input))
 
-  pub running_none : is_run_expected (take (length input - taken) (drop taken input)) s ≡ false → RunsRead before r input taken s q
+  pub running_none : is_run_expected (take (length input - taken) (drop taken input)) s ≡ false → Ran before r input taken s q
   running_none h =
       let e : is_run_expected (drop taken input) s ≡ false = rw rest_is at h in
       record {
@@ -208,11 +327,6 @@ module _ (before s : State) (r q : Registers) (input : List ℕ) (taken : ℕ) (
         state = sym (w.state ∙ state_none (length input - taken) (drop taken input) s e);
         registers = w.registers;
       }
-
-  pub running_all : length input ≤ taken → RunsRead before r input taken s q
-  running_all h =
-      running_none (none_left (take (length input - taken) (drop taken input)) s
-      (omega (arith, length-take (length input - taken) (drop taken input), length-drop taken input)))
 
   pub running_more : (t : State) (p : Registers) (more : ℕ) → is_run_expected (take (length input - taken) (drop taken input)) s ≡ true
       → more ≡ place_of 10 (take (length input - taken) (drop taken input)) + 1
@@ -239,89 +353,83 @@ module _ (before s : State) (r q : Registers) (input : List ℕ) (taken : ℕ) (
         registers = v;
       }
 
--- What a turn of the loop changes, where a run line stands there.
-module _ (n : ℕ) (l : List ℕ) (run : Run) (q : run ≡ run_at l n) (some : run.bytes ≡ 0 → ⊥) where
-  there : is_run l n ≡ true
-  unfolding run_at
-  there = by (is_run l n) refl
-    where
-      by : (b : Bool) → is_run l n ≡ b → b ≡ true
-      by true p = refl
-      by false p = let z : run.bytes ≡ 0 = ap (λ (y : Run). y.bytes) q ∙ rw p in absurd (some z)
+-- Before the first turn nothing was taken.
+pub running_from : (x : Progress) (input : List ℕ) → Running (state_of x) (registers_held x) input 0 (state_of x) (registers_held x)
+running_from x input = running_start (state_of x) (state_of x) (registers_held x) input refl (held_same x)
 
-  run_is : run
-      ≡ record {
-        bytes = place_of 10 l + 1;
-        count = get_or (run_line (line_at l)) 0 0;
-        delivered = get_or (run_line (line_at l)) 1 0;
-        received = get_or (run_line (line_at l)) 2 0;
-      }
-  unfolding run_at
-  run_is = q ∙ rw there
+-- Whether a run was stored.
+pub added : (o : Option (Unit {0})) (P : Type 0) → is_some o ≡ true → OnSome o P → P
+added None P h w = absurd (cc)
+added (Some x) P h w = w
 
-  pub turn_bytes : run.bytes ≡ place_of 10 l + 1
-  turn_bytes = ap (λ (y : Run). y.bytes) run_is
+pub refused : (o : Option (Unit {0})) (P : Type 0) → is_some o ≡ false → IfNone o P → P
+refused None P h w = w
+refused (Some x) P h w = absurd (cc)
 
-  pub turn_within : run.bytes ≤ length l
-  turn_within = omega (arith, turn_bytes, (run_fits l n there).newline)
+-- No run is expected: none is taken.
+pub ran_other : (x : Progress) (input : List ℕ) → (number_of x.expected ≡ 16 → ⊥) → RunsRead x input 0 x
+ran_other x input h =
+    let e = running_none (state_of x) (state_of x) (registers_held x) (registers_held x) input 0 (running_from x input)
+    (not-expected (take (length input - 0) (drop 0 input)) (state_of x) h) in
+    record { takes = e.takes; state = e.state; registers = e.registers }
 
-  pub turn_fits : n + run.count ≤ 2976
-  turn_fits = omega (arith, ap (λ (y : Run). y.count) run_is, (run_fits l n there).fits)
+-- The registers after a run and its count: r is what they were at first.
+held_after : (r : Registers) (y z : Progress) (run : Run) (m : Readings) → Adds y.readings run m → Changes (reading y m) counted z
+    → registers_held y ≡ with_readings (state_of y) r → registers_held z ≡ with_readings (state_of z) r
+unfolding with_readings counted
+held_after r y z run m a c w =
+    c.registers ∙ a.registers ∙ ap (with_readings (state_of (reading y m))) w
+    ∙ readings_over (state_of y) (state_of (reading y m)) _ _ r a.delivered a.received
+    ∙ sym (ap (λ (s : State). with_readings s r) c.state)
 
--- x is the progress before the loop; n readings stand at the front of both registers.
-module _ (x : Progress) (number n : ℕ) (d e l : List ℕ) (expected : x.expected ≡ 16) (long : length d ≡ 2976) (wide : length e ≡ 2976) (within : n ≤ 2976) where
-  stored : length (take n d) ≡ n
-  stored = omega (arith, length-take n d)
+-- x is the progress before the loop and y that in it.
+module _ (x y : Progress) (input : List ℕ) (taken : ℕ) (w : Running (state_of x) (registers_held x) input taken (state_of y) (registers_held y)) where
+  pub ran : is_run_expected (take (length input - taken) (drop taken input)) (state_of y) ≡ false → RunsRead x input taken y
+  ran h =
+      let e = running_none (state_of x) (state_of y) (registers_held x) (registers_held y) input taken w h in
+      record { takes = e.takes; state = e.state; registers = e.registers }
 
-  module _ (run : Run) (q : run ≡ run_at l n) where
-    pub turn_none : run.bytes ≡ 0 → is_run_expected l (ran_to x number (take n d) (take n e)) ≡ false
-    unfolding run_at
-    turn_none h = is-expected l (ran_to x number (take n d) (take n e)) false expected (rw stored (by (is_run l n) refl))
-      where
-        by : (b : Bool) → is_run l n ≡ b → b ≡ false
-        by false p = refl
-        by true p = let z : run.bytes ≡ place_of 10 l + 1 = ap (λ (y : Run). y.bytes) q ∙ rw p in absurd (omega (arith, z, h))
+  module _ (h : number_of y.expected ≡ 16) where
+    pub ran_none : None ≡ first_run (take (length input - taken) (drop taken input)) → RunsRead x input taken y
+    ran_none e =
+        let rest = take (length input - taken) (drop taken input) in
+        ran (is-expected rest (state_of y) false h (first_none rest (length (delivered_of y.readings)) e))
 
-    module _ (some : run.bytes ≡ 0 → ⊥) where
-      pub turn_expected : is_run_expected l (ran_to x number (take n d) (take n e)) ≡ true
-      turn_expected = is-expected l (ran_to x number (take n d) (take n e)) true expected (rw stored (there n l run q some))
+    module _ (line : RunLine) (e : Some line ≡ first_run (take (length input - taken) (drop taken input))) where
+      found : First (take (length input - taken) (drop taken input)) line
+      found = first_some (take (length input - taken) (drop taken input)) line e
 
-      module _ (f g : List ℕ) (next : ℕ) (wf : f ≡ sets d n (replicate (n + run.count - n) run.delivered))
-          (wg : g ≡ sets e n (replicate (n + run.count - n) run.received)) where
-        fits : n + run.count ≤ 2976
-        fits = turn_fits n l run q some
+      pub ran_full : (m : Readings) → Refuses y.readings line.run m → RunsRead x input taken (reading y m)
+      ran_full m r =
+          let rest = take (length input - taken) (drop taken input) in
+          let full = ran (is-expected rest (state_of y) false h (run_past rest line found (length (delivered_of y.readings)) r.full)) in
+          subst (λ (k : Readings). RunsRead x input taken (reading y k)) (sym r.same) full
 
-        pub turn_state : next ≡ next_number number
-            → ran_to x next (take (n + run.count) f) (take (n + run.count) g)
-            ≡ (line_read (line_at l) (ran_to x number (take n d) (take n e))).state
-        unfolding counted
-        turn_state k =
-            let front = stored_front d f n (n + run.count) run.delivered (omega arith) (omega (arith, long, fits)) wf in
-            let back = stored_front e g n (n + run.count) run.received (omega arith) (omega (arith, wide, fits)) wg in
-            let more : n + run.count - n ≡ run.count = omega arith in
-            let read = ap (λ (y : Outcome). y.state) (run_read_lem l (ran_to x number (take n d) (take n e)) turn_expected) in
-            rw (front, back, more, k, run_is n l run q some) (sym read)
+      pub turn_within : taken + line.bytes ≤ length input
+      turn_within =
+          let f = found in
+          let less = f.newline in
+          let bytes = f.bytes in
+          omega (arith, length-take (length input - taken) (drop taken input), length-drop taken input)
 
-        pub turn_registers : (r : Registers) → registers_of d e ≡ with_readings (ran_to x number (take n d) (take n e)) r
-            → registers_of f g ≡ with_readings (ran_to x next (take (n + run.count) f) (take (n + run.count) g)) r
-        turn_registers r w =
-            stored_both x number next n (n + run.count) run.delivered run.received r d e f g (omega arith)
-            (omega (arith, long, fits)) (omega (arith, wide, fits)) w wf wg
+      pub turn_some : 0 < line.bytes
+      turn_some = let bytes = found.bytes in omega arith
 
--- Before the first turn: r readings stand in both registers.
-pub loop_start : (x : Progress) (d e : List ℕ) (r n : ℕ) → length d ≡ 2976 → length e ≡ 2976 → r ≡ min x.stored (length d)
-    → n ≡ min r (length e) → ran_to x x.lines (take n d) (take n e) ≡ state_of x d e
-loop_start x d e r n p q h k =
-    let first : n ≡ min x.stored (length d) = omega arith in
-    let second : n ≡ min x.stored (length e) = omega arith in
-    rw (least_taken d x.stored n first, least_taken e x.stored n second)
+      -- A run is stored, and the line is counted.
+      pub turn : (m : Readings) (z : Progress) → Adds y.readings line.run m → Changes (reading y m) counted z
+          → Running (state_of x) (registers_held x) input (taken + line.bytes) (state_of z) (registers_held z)
+      unfolding counted
+      turn m z a c =
+          let rest = take (length input - taken) (drop taken input) in
+          let n = length (delivered_of y.readings) in
+          let there = is-expected rest (state_of y) true h (run_there rest line found n a.fits) in
+          let run = (some_numbers (line_at rest) line.run found.run).1 in
+          let read = ap (λ (o : Outcome). o.state) (run_read_lem rest (state_of y) there) in
+          running_more (state_of x) (state_of y) (registers_held x) (registers_held y) input taken w (state_of z) (registers_held z) line.bytes there
+          found.bytes
+          (c.state ∙ rw (a.delivered, a.received, run) (sym read))
+          (held_after (registers_held x) y z line.run m a c w.registers)
 
--- No run is expected.
-pub none_expected : (s : State) (r : Registers) (input : List ℕ) → (s.expected ≡ 16 → ⊥) → r ≡ with_readings s r → RunsRead s r input 0 s r
-none_expected s r input h e =
-    running_none s s r r input 0 (running_start s s r input refl e) (not-expected (take (length input - 0) (drop 0 input)) s h)
-
--- The later progress stands for the state.
-pub ran_to_lem : (before s t : State) (r q : Registers) (input : List ℕ) (taken : ℕ) → t ≡ s → RunsRead before r input taken s q
-    → RunsRead before r input taken t q
-ran_to_lem before s t r q input taken e w = subst (λ (x : State). RunsRead before r input taken x q) (sym e) w
+pub still_run : (y z : Progress) (m : Readings) → number_of y.expected ≡ 16 → Changes (reading y m) counted z → number_of z.expected ≡ 16
+unfolding counted
+still_run y z m h c = ap (λ (s : State). s.expected) c.state ∙ h

@@ -1,58 +1,42 @@
--- Readings stored in the registers, over plain values.
-use mathlib.Core.Path.{◌≡◌, refl, sym, ◌∙◌, ap}
-use mathlib.Core.List.{List, [], ◌∷◌, ◌++◌}
+-- Readings stored behind others, over plain values.
+use mathlib.Core.Path.{◌≡◌, sym, ◌∙◌, ap}
+use mathlib.Core.List.{List, ◌++◌, append_assoc}
 use Prim.Native.Nat.{ℕ, ◌+◌, ◌-◌, ◌≤◌}
 use native.Mathlib.Nat.{zero-add}
 use native.Mathlib.Omega.{arith}
-use lib.ListN.{length, set, take, drop, replicate, length-replicate, replicate-append-replicate, length-append}
-use lib.Seq.{sets, sets-eq, take_at, length-take-le}
-use Rattle.lines.specs.Feeding.{Registers, registers_of, with_readings}
-use Rattle.text.proofs.Lists.{sets-append}
-use Rattle.lines.proofs.Buffers.{readings_same}
-use Rattle.lines.specs.Statement.{Outcome}
-use Rattle.progress.specs.Progressing.{state_of}
-use Rattle.progress.specs.Ending.{Ends, EndsWith, ran_to}
-use Rattle.progress.specs.declared.Progress.{Progress}
+use borrow.Rule.Slice.PartMut.{put_mid, mid_of}
+use lib.ListN.{length, take, drop, replicate, length-replicate, length-append, length-take, length-drop}
+use lib.Seq.{sets, sets-eq, length-take-le, drop-drop}
+use Rattle.std.proofs.lemmas.Slice.{take-put_mid}
 
--- A reading stored no time, and once more.
-pub stored_none : (l : List ℕ) (i v : ℕ) → l ≡ sets l i (replicate (i - i) v)
-stored_none l i v = let none : i - i ≡ 0 = omega arith in rw none
+-- ys stand behind the first readings.
+module _ (l ys : List ℕ) (from k : ℕ) (h : from + k ≤ length l) (e : length ys ≡ k) where
+  pub stored_front : take (from + k) (put_mid from k l ys) ≡ take from l ++ ys
+  stored_front = take-put_mid from k l ys (from + k) (omega arith) (omega arith)
 
-pub stored_more : (l m : List ℕ) (from i v : ℕ) → from ≤ i → m ≡ sets l from (replicate (i - from) v)
-    → set m i v ≡ sets l from (replicate (i + 1 - from) v)
-stored_more l m from i v h e =
-    let more : i + 1 - from ≡ i - from + 1 = omega arith in
-    let last : from + length (replicate (i - from) v) ≡ i = rw length-replicate (omega arith) in
-    rw (e, more, ← replicate-append-replicate (i - from) 1 v, sets-append l from (replicate (i - from) v) (v ∷ []), last)
+  pub stored_past : put_mid from k l ys ≡ sets l 0 (take (from + k) (put_mid from k l ys))
+  stored_past =
+      let long : length (take from l ++ ys) ≡ from + k = length-append (take from l) ys ∙ rw (length-take-le from l (omega arith), e) in
+      rw stored_front (rw (sets-eq (take from l ++ ys) l 0 (omega arith), long, zero-add)
+      (ap (λ (past : List ℕ). take from l ++ (ys ++ past)) (drop-drop k from l) ∙ sym (append_assoc (take from l) ys (drop (from + k) l))))
 
--- The front of a register after that.
-module _ (l m : List ℕ) (from to v : ℕ) (h : from ≤ to) (k : to ≤ length l) (e : m ≡ sets l from (replicate (to - from) v)) where
-  pub stored_front : take to m ≡ take from l ++ replicate (to - from) v
-  stored_front =
-      let long = length-replicate (to - from) v in
-      rw (e, sets-eq (replicate (to - from) v) l from (omega arith))
-      (take_at (take from l ++ replicate (to - from) v) (drop (from + length (replicate (to - from) v)) l) to
-      (length-append (take from l) (replicate (to - from) v) ∙ rw (length-take-le from l (omega arith)) (omega arith)))
+-- So many equal readings.
+module _ (l ys : List ℕ) (from count v : ℕ) (h : from + count ≤ length l)
+    (e : ys ≡ replicate (length (mid_of from (from + count - from) l)) v) where
+  more : from + count - from ≡ count
+  more = omega arith
 
-  -- What lies past it is as it was at first.
-  pub stored_past : (first : List ℕ) → l ≡ sets first 0 (take from l) → m ≡ sets first 0 (take to m)
-  stored_past first p =
-      rw stored_front (sym (sets-append first 0 (take from l) (replicate (to - from) v)
-      ∙ rw (← p, zero-add, length-take-le from l (omega arith)) (sym e)))
+  same : length ys ≡ count
+  same =
+      let long = length-take (from + count - from) (drop from l) in
+      let rest = length-drop from l in
+      rw (e, length-replicate) (omega arith)
 
-module _ (x : Progress) where
-  -- The registers are as they were.
-  pub ends_same : {o p : List ℕ} {i j : ℕ} {step : Outcome} (d e : List ℕ) → Ends o i step (state_of x d e) p j
-      → EndsWith o i (registers_of d e) step (state_of x d e) (registers_of d e) p j
-  ends_same d e w = record { ends = w; registers = readings_same (state_of x d e) x.stored d e refl refl }
+  equal : ys ≡ replicate count v
+  equal = let long : length (mid_of from (from + count - from) l) ≡ count = sym (ap length e ∙ length-replicate (length (mid_of from (from + count - from) l)) v) ∙ same in rw (← long) e
 
-  -- Both are stored.
-  pub stored_both : (number next from to u v : ℕ) (r : Registers) (d e f g : List ℕ) → from ≤ to → to ≤ length d → to ≤ length e
-      → registers_of d e ≡ with_readings (ran_to x number (take from d) (take from e)) r
-      → f ≡ sets d from (replicate (to - from) u) → g ≡ sets e from (replicate (to - from) v)
-      → registers_of f g ≡ with_readings (ran_to x next (take to f) (take to g)) r
-  unfolding with_readings
-  stored_both number next from to u v r d e f g h k m w p q =
-      let first = stored_past d f from to u h k p r.delivered (ap (λ (y : Registers). y.delivered) w) in
-      let second = stored_past e g from to v h m q r.received (ap (λ (y : Registers). y.received) w) in
-      ap (λ (y : List ℕ). registers_of y g) first ∙ ap (registers_of (sets r.delivered 0 (take to f))) second
+  pub filled_front : take (from + count) (put_mid from (from + count - from) l ys) ≡ take from l ++ replicate count v
+  filled_front = rw (more, ← equal) (stored_front l ys from count h same)
+
+  pub filled_past : put_mid from (from + count - from) l ys ≡ sets l 0 (take (from + count) (put_mid from (from + count - from) l ys))
+  filled_past = rw more (stored_past l ys from count h same)

@@ -1,35 +1,30 @@
--- What the progress and the registers lent with it stand for, and what its functions promise.
+-- What the progress stands for, and what its functions promise.
 use Rattle.std.specs.Prelude.{◌≡◌, Bool, false, cond, ◌&&◌, List, ℕ, zero, suc, ◌+◌, eqb, leb, length, get_or, take, drop}
-use Rattle.std.proofs.lemmas.List.Edits.{sets}
 use Rattle.text.specs.Text.{place_of}
 use Rattle.grammar.specs.Grammar.{run_line}
 use Rattle.printing.specs.Writing.{has_room, Put}
-use Rattle.progress.specs.declared.Progress.{Progress}
-use Rattle.lines.specs.Statement.{State, state, month_of, Outcome, is_unreadable, run_limit, run_expected, has_stopped, line_read, at_end}
+use Rattle.lines.specs.Statement.{State, state, month_of, is_unreadable, run_limit, run_expected, line_read}
 use Rattle.lines.specs.Feeding.{Registers, with_readings}
+use Rattle.progress.specs.declared.Progress.{Progress}
+use Rattle.progress.specs.Values.{values_of}
+use Rattle.progress.specs.Expected.{number_of}
+use Rattle.progress.specs.Readings.{delivered_of, received_of, registers_in}
 
--- The readings of the month stand at the front of the two registers.
-abbrev pub state_of : Progress → List ℕ → List ℕ → State
-state_of x delivered received =
-    state x.lines x.expected x.values x.account
-    (month_of x.month x.critical (take x.stored delivered) (take x.stored received))
+abbrev pub state_of : Progress → State
+state_of x =
+    state x.lines (number_of x.expected) (values_of x.opening) x.account
+    (month_of x.month x.critical (delivered_of x.readings) (received_of x.readings))
 
--- Whatever the registers hold, the progress stands for a state.
-abbrev pub StandsFor : State → Progress → Type 0
-StandsFor s x = (d e : List ℕ) → state_of x d e ≡ s
-
--- Whatever the registers hold, the answer says whether a fault has stopped it.
-abbrev pub SaysStopped : Progress → Bool → Type 0
-SaysStopped x answer = (d e : List ℕ) → answer ≡ has_stopped (state_of x d e)
+-- The registers that the month's readings stand at the front of.
+abbrev pub registers_held : Progress → Registers
+registers_held x = registers_in x.readings
 
 -- A line was read, where a text fits into the buffer from place i on: what the progress stands for then, and its text. Elsewhere both
 -- stay as they were. Past the month's readings the registers are unaltered.
-pub record Reads
-    (out : List ℕ) (i : ℕ) (r : Registers) (before : State) (step : Outcome) (later : State) (r_later : Registers) (out_later : List ℕ) (j : ℕ) : Type 0 where
-  pub state : later ≡ cond (has_room out i) step.state before
-  pub registers : r_later ≡ with_readings later r
-  pub bytes : out_later ≡ cond (has_room out i) (sets out i step.text) out
-  pub end : j ≡ cond (has_room out i) (i + length step.text) i
+pub record Reads (before : Progress) (line : List ℕ) (out : List ℕ) (i : ℕ) (later : Progress) (out_later : List ℕ) (j : ℕ) : Type 0 where
+  pub state : state_of later ≡ cond (has_room out i) (line_read line (state_of before)).state (state_of before)
+  pub registers : registers_held later ≡ with_readings (state_of later) (registers_held before)
+  pub text : Put out i (line_read line (state_of before)).text out_later j
 
 -- The line that ends at the first newline of an input.
 abbrev pub line_at : List ℕ → List ℕ
@@ -56,12 +51,7 @@ runs_state zero l s = s
 runs_state (suc n) l s = cond (is_run_expected l s) (runs_state n (drop (place_of 10 l + 1) l) (line_read (line_at l) s).state) s
 
 -- They were read. Past the month's readings the registers are unaltered.
-pub record RunsRead (before : State) (r : Registers) (input : List ℕ) (taken : ℕ) (later : State) (r_later : Registers) : Type 0 where
-  pub takes : taken ≡ runs_bytes (length input) input before
-  pub state : later ≡ runs_state (length input) input before
-  pub registers : r_later ≡ with_readings later r
-
--- The end of the input: its text, where it fits from place i on. The registers are unaltered.
-pub record Finishes (out : List ℕ) (i : ℕ) (r : Registers) (before : State) (r_later : Registers) (out_later : List ℕ) (j : ℕ) : Type 0 where
-  pub text : Put out i (at_end before) out_later j
-  pub registers : r_later ≡ r
+pub record RunsRead (before : Progress) (input : List ℕ) (taken : ℕ) (later : Progress) : Type 0 where
+  pub takes : taken ≡ runs_bytes (length input) input (state_of before)
+  pub state : state_of later ≡ runs_state (length input) input (state_of before)
+  pub registers : registers_held later ≡ with_readings (state_of later) (registers_held before)

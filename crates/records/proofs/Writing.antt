@@ -1,17 +1,38 @@
--- Numbers written one after the other.
-use mathlib.Core.Path.{◌≡◌}
-use mathlib.Core.List.{List}
-use Prim.Native.Nat.{ℕ, ◌+◌, ◌≤◌, ◌<◌}
-use native.Mathlib.Nat.{add-suc}
-use native.Mathlib.Numerals.{add-one}
-use lib.ListN.{length, get_or, drop, set, drop_of_length-le}
-use lib.Seq.{sets, drop-cons}
+-- Numbers written from a place on: those that fit are copied, and the others have no place.
+use Rattle.std.proofs.Common.{◌≡◌, ℕ, ◌+◌, ◌-◌, ◌<◌, ◌≤◌, min, Bool, true, false, List, length, take, drop, refl, sym, ◌∙◌, append_assoc, arith}
+use Rattle.std.proofs.lemmas.List.{take-append-drop, length-take-le, drop-drop}
+use Rattle.std.proofs.lemmas.List.Edits.{sets, sets-eq}
+use Rattle.std.proofs.Math.Seq.{length-sets, take_all}
+use Rattle.std.proofs.Math.Nat.{min-eq_left, min-eq_right, le_of_lt}
+use borrow.Author.Tests.{leb-true, leb-false}
+use lib.Dec.{leb}
+use Rattle.text.proofs.Lists.{sets-append, sets-out}
+use borrow.Rule.Slice.PartMut.{put_mid}
 
--- One number more is written, and the rest is still to be.
-pub put_next : (buffer row : List ℕ) (start k : ℕ) → k < length row
-    → sets (set buffer (start + k) (get_or row k 0)) (start + (k + 1)) (drop (k + 1) row) ≡ sets buffer (start + k) (drop k row)
-put_next buffer row start k h = rw (drop-cons row k 0 h, add-one k, add-suc start k)
+-- A part that fits.
+put_part : (buffer part : List ℕ) (start : ℕ) → start + length part ≤ length buffer → put_mid start (length part) buffer part ≡ sets buffer start part
+put_part buffer part start h = rw (drop-drop (length part) start buffer, sets-eq part buffer start h, append_assoc (take start buffer) part (drop (start + length part) buffer))
 
--- Nothing is left of a row that is written.
-pub all_put : (buffer row : List ℕ) (i k : ℕ) → length row ≤ k → sets buffer i (drop k row) ≡ buffer
-all_put buffer row i k h = rw (drop_of_length-le row h)
+pub copied : (buffer numbers part : List ℕ) (start fit : ℕ) → start < length buffer → fit ≡ min (length numbers) (length buffer - start) → part ≡ take fit numbers
+    → put_mid start (start + fit - start) buffer part ≡ sets buffer start numbers
+copied buffer numbers part start fit inside f p = by (leb (length numbers) (length buffer - start)) refl
+  where
+    size : start + fit - start ≡ fit
+    size = omega arith
+
+    by : (t : Bool) → leb (length numbers) (length buffer - start) ≡ t → put_mid start (start + fit - start) buffer part ≡ sets buffer start numbers
+    by true e =
+        let all : fit ≡ length numbers = f ∙ min-eq_left (leb-true _ _ e) in
+        let same : part ≡ numbers = p ∙ take_all fit numbers (omega arith) in
+        rw (size, all, same) (put_part buffer numbers start (omega (arith, leb-true _ _ e)))
+    by false e =
+        let most : fit ≡ length buffer - start = f ∙ min-eq_right (le_of_lt (leb-false _ _ e)) in
+        let long : length part ≡ fit = rw p (length-take-le fit numbers (omega (arith, leb-false _ _ e))) in
+        let rest : sets buffer start numbers ≡ sets buffer start part =
+        rw (← (take-append-drop fit numbers), ← p, sets-append buffer start part (drop fit numbers))
+        (sets-out (sets buffer start part) (start + length part) (drop fit numbers) (rw (length-sets buffer start part) (omega arith))) in
+        rw (size, ← long, rest) (put_part buffer part start (omega arith))
+
+-- Past the end there is nothing to write.
+pub none_written : (buffer numbers : List ℕ) (start : ℕ) → length buffer ≤ start → buffer ≡ sets buffer start numbers
+none_written buffer numbers start h = sym (sets-out buffer start numbers h)

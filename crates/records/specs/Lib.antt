@@ -1,3 +1,4 @@
+pub mod Reading
 pub mod Records
 pub mod Rows
 pub mod Sections

@@ -2,12 +2,13 @@
 // written from any place on.
 #![tactic(auto)]
 
-ghost use Rattle.std.specs.Prelude.{◌≡◌, ◌+◌, min, get_or, set};
+ghost use Rattle.std.specs.Prelude.{◌≡◌, ◌+◌, get_or, take, drop};
 ghost use Rattle.std.proofs.lemmas.List.Edits.{sets};
 ghost use Rattle.tariff.specs.Tariff.{eight_at};
-ghost use Rattle.records.specs.Sections.{rider_code, rider_at, class_code, class_at, yes_code, four_at, nameplates_place};
-ghost use Rattle.records.specs.Sections.{terms_numbers, terms_at, known_terms, prices_numbers, prices_at};
-ghost use Rattle.records.specs.Records.{count_at, opening_codes, billing_codes, is_call};
+ghost use Rattle.records.specs.Sections.{rider_code, class_code, yes_code, four_at, nameplates_place};
+ghost use Rattle.records.specs.Sections.{terms_numbers, prices_numbers, prices_at};
+ghost use Rattle.records.specs.Reading.{rider_read, class_read, yes_read, terms_read, small_read, opening_read, billing_read, call_read};
+ghost use Rattle.records.specs.Reading.{delivered_said, received_said};
 ghost use Rattle.records.specs.Rows.{row_of};
 
 use account::ClosingAmounts;
@@ -15,7 +16,8 @@ use billing::Bill;
 use hours::ByPeriod;
 use tariff::{Class, MOST_NAMEPLATES, PriceList, Rider, Terms};
 
-// Terms: rider, class, how many nameplates, eight places for them, demand limit, assisted. The places are counted from the first of these numbers.
+// Terms: rider, class, how many nameplates, eight places for them, demand limit, assisted. The places, here and of a record, are those of the
+// interface for C, and are counted from the first of these numbers.
 const RIDER_PLACE: usize = 0;
 
 const CLASS_PLACE: usize = RIDER_PLACE + 1;
@@ -34,43 +36,61 @@ pub const TERMS_LENGTH: usize = ASSISTED_PLACE + 1;
 pub const PRICES_LENGTH: usize = 11;
 
 // The record of a call: its kind; of an opening terms, price list and first month, of a repricing the price list at the same place.
-pub const KIND_PLACE: usize = 0;
+const KIND_PLACE: usize = 0;
 
-pub const TERMS_PLACE: usize = KIND_PLACE + 1;
+const TERMS_PLACE: usize = KIND_PLACE + 1;
 
-pub const PRICES_PLACE: usize = TERMS_PLACE + TERMS_LENGTH;
+const PRICES_PLACE: usize = TERMS_PLACE + TERMS_LENGTH;
 
-pub const FIRST_MONTH_PLACE: usize = PRICES_PLACE + PRICES_LENGTH;
+const FIRST_MONTH_PLACE: usize = PRICES_PLACE + PRICES_LENGTH;
 
 pub const RECORD: usize = FIRST_MONTH_PLACE + 1;
 
 // Of a billing the month, the number of its delivered and of its received readings, and the critical days.
-pub const MONTH_PLACE: usize = KIND_PLACE + 1;
+const MONTH_PLACE: usize = KIND_PLACE + 1;
 
-pub const DELIVERED_PLACE: usize = MONTH_PLACE + 1;
+const DELIVERED_PLACE: usize = MONTH_PLACE + 1;
 
-pub const RECEIVED_PLACE: usize = DELIVERED_PLACE + 1;
+const RECEIVED_PLACE: usize = DELIVERED_PLACE + 1;
 
-pub const CRITICAL_PLACE: usize = RECEIVED_PLACE + 1;
+const CRITICAL_PLACE: usize = RECEIVED_PLACE + 1;
 
-// The kinds of calls.
-pub const OPENING: u64 = 0;
+// The kinds of calls, as the interface for C numbers them.
+const OPENING: u64 = 0;
 
-pub const REPRICING: u64 = 1;
+const REPRICING: u64 = 1;
 
-pub const BILLING: u64 = 2;
+const BILLING: u64 = 2;
 
-pub const CLOSING: u64 = 3;
+const CLOSING: u64 = 3;
 
 // The numbers of an answer's row: its number, eleven amounts by period, the money lines, an amount by period and a sum of money.
 const LINES_LENGTH: usize = 10;
 
 pub const ROW: usize = 1 + 11 * 4 + LINES_LENGTH + 4 + 1;
 
-// The first number of more than 32 bits.
-pub const LIMIT_32: u64 = 0x1_0000_0000;
+// What the record of a call says. A billing says how many readings it takes from each register.
+#[derive(Clone, Copy)]
+pub enum Call {
+    Opening {
+        terms: Terms,
+        prices: PriceList,
+        month: u32,
+    },
+    Repricing {
+        prices: PriceList,
+    },
+    Billing {
+        month: u32,
+        delivered: u64,
+        received: u64,
+        critical_days: u32,
+    },
+    Closing,
+}
 
-// The answer to one call: its number and every amount, 0 in those that the call doesn't return.
+// The answer to one call: its number and every amount, 0 in those that the call doesn't return, since a row of the interface for C has a place
+// for each.
 #[derive(Clone, Copy)]
 pub struct Answer {
     pub number: u32,
@@ -78,23 +98,36 @@ pub struct Answer {
     pub amounts: ClosingAmounts,
 }
 
-fn rider_at(code: u64) -> Rider
-    ensures { result ≡ rider_at code }
+// The rider of a known code. The codes are this crate's, and `TryFrom` for a type of `tariff` could stand in `tariff` alone, so this is a function.
+fn rider_of(code: u64) -> Option<Rider>
+    ensures { result ≡ rider_read code }
 {
-    if code == 0 {
-        Rider::Banked
-    } else {
-        Rider::Bridge
+    match code {
+        0 => Some(Rider::Banked),
+        1 => Some(Rider::Bridge),
+        _ => None,
     }
 }
 
-fn class_at(code: u64) -> Class
-    ensures { result ≡ class_at code }
+// The class of a known code.
+fn class_of(code: u64) -> Option<Class>
+    ensures { result ≡ class_read code }
 {
-    if code == 0 {
-        Class::Home
-    } else {
-        Class::Business
+    match code {
+        0 => Some(Class::Home),
+        1 => Some(Class::Business),
+        _ => None,
+    }
+}
+
+// Yes or no of a known code.
+fn yes_of(code: u64) -> Option<bool>
+    ensures { result ≡ yes_read code }
+{
+    match code {
+        0 => Some(false),
+        1 => Some(true),
+        _ => None,
     }
 }
 
@@ -102,162 +135,149 @@ fn class_at(code: u64) -> Class
 pub fn number_at(words: &[u64], place: usize) -> u64
     ensures { result ≡ get_or words.now place 0 }
 {
-    if place < words.len() {
-        return words[place];
-    }
-    0
+    words.get(place).copied().unwrap_or(0)
 }
 
 // The number at a place counted from another one, or 0 past the end.
 pub fn number_from(words: &[u64], start: usize, place: usize) -> u64
     ensures { result ≡ get_or words.now (start + place) 0 }
 {
-    if start < words.len() {
-        if place < words.len() - start {
-            return words[start + place];
-        }
-    }
-    0
+    number_at(words, start.saturating_add(place))
 }
 
 // The places for nameplates of the terms that start at a place.
 fn nameplates_at(words: &[u64], place: usize) -> [u64; MOST_NAMEPLATES]
     ensures { result ≡ eight_at words.now place nameplates_place }
 {
-    let first = number_from(words, place, NAMEPLATES_PLACE);
-    let second = number_from(words, place, NAMEPLATES_PLACE + 1);
-    let third = number_from(words, place, NAMEPLATES_PLACE + 2);
-    let fourth = number_from(words, place, NAMEPLATES_PLACE + 3);
-    let fifth = number_from(words, place, NAMEPLATES_PLACE + 4);
-    let sixth = number_from(words, place, NAMEPLATES_PLACE + 5);
-    let seventh = number_from(words, place, NAMEPLATES_PLACE + 6);
-    let eighth = number_from(words, place, NAMEPLATES_PLACE + 7);
-    [first, second, third, fourth, fifth, sixth, seventh, eighth]
+    std::array::from_fn(|i| number_from(words, place, NAMEPLATES_PLACE + i))
 }
 
-// The terms that start at a place.
-pub fn terms_at(words: &[u64], place: usize) -> Terms
-    ensures { result ≡ terms_at words.now place }
+// The terms that start at a place, where their codes are known.
+#[tactic(auto, unfolding(crate::specs::Sections::terms_at, crate::specs::Sections::known_terms, crate::specs::Reading::terms_read))]
+pub fn terms_at(words: &[u64], place: usize) -> Option<Terms>
+    ensures { result ≡ terms_read words.now place }
 {
-    let rider = rider_at(number_from(words, place, RIDER_PLACE));
-    let class = class_at(number_from(words, place, CLASS_PLACE));
-    let count = number_from(words, place, NAMEPLATE_COUNT_PLACE);
-    let nameplates = nameplates_at(words, place);
-    let limit = number_from(words, place, LIMIT_PLACE);
-    let assisted = number_from(words, place, ASSISTED_PLACE) == 1;
-    Terms {
+    let rider = rider_of(number_from(words, place, RIDER_PLACE))?;
+    let class = class_of(number_from(words, place, CLASS_PLACE))?;
+    let assisted = yes_of(number_from(words, place, ASSISTED_PLACE))?;
+    Some(Terms {
         rider,
         class,
-        count,
-        nameplates,
-        limit,
+        count: number_from(words, place, NAMEPLATE_COUNT_PLACE),
+        nameplates: nameplates_at(words, place),
+        limit: number_from(words, place, LIMIT_PLACE),
         assisted,
-    }
-}
-
-// Whether the codes of terms that start at a place are known.
-pub fn known_terms(words: &[u64], place: usize) -> bool
-    ensures { result ≡ known_terms words.now place }
-{
-    if 1 < number_from(words, place, RIDER_PLACE) {
-        return false;
-    }
-    if 1 < number_from(words, place, CLASS_PLACE) {
-        return false;
-    }
-    number_from(words, place, ASSISTED_PLACE) <= 1
+    })
 }
 
 // Four amounts that start at a place.
 pub fn four_at(words: &[u64], place: usize) -> ByPeriod
     ensures { result ≡ four_at words.now place }
 {
-    let critical = number_at(words, place);
-    let onpeak = number_from(words, place, 1);
-    let offpeak = number_from(words, place, 2);
-    let discount = number_from(words, place, 3);
     ByPeriod {
-        critical,
-        onpeak,
-        offpeak,
-        discount,
+        critical: number_at(words, place),
+        onpeak: number_from(words, place, 1),
+        offpeak: number_from(words, place, 2),
+        discount: number_from(words, place, 3),
     }
 }
 
 // The price list that starts at a place.
+#[tactic(auto, unfolding(crate::specs::Sections::prices_at))]
 pub fn prices_at(words: &[u64], place: usize) -> PriceList
     ensures { result ≡ prices_at words.now place }
 {
-    let energy = four_at(words, place);
-    let demand = number_from(words, place, 4);
-    let standby = number_from(words, place, 5);
-    let bypass = number_from(words, place, 6);
-    let credit = number_from(words, place, 7);
-    let distribution = number_from(words, place, 8);
-    let basic = number_from(words, place, 9);
-    let minimum = number_from(words, place, 10);
     PriceList {
-        energy,
-        demand,
-        standby,
-        bypass,
-        credit,
-        distribution,
-        basic,
-        minimum,
+        energy: four_at(words, place),
+        demand: number_from(words, place, 4),
+        standby: number_from(words, place, 5),
+        bypass: number_from(words, place, 6),
+        credit: number_from(words, place, 7),
+        distribution: number_from(words, place, 8),
+        basic: number_from(words, place, 9),
+        minimum: number_from(words, place, 10),
     }
 }
 
-// Whether an opening's record has known codes and a month of 32 bits.
-fn is_opening(call: &[u64]) -> bool
-    ensures { result ≡ opening_codes call.now }
+// The number at a place, where it has 32 bits.
+pub fn small_at(words: &[u64], place: usize) -> Option<u32>
+    ensures { result ≡ small_read words.now place }
 {
-    if known_terms(call, TERMS_PLACE) {
-        return number_at(call, FIRST_MONTH_PLACE) < LIMIT_32;
-    }
-    false
+    u32::try_from(number_at(words, place)).ok()
 }
 
-// Whether a billing's record has a month and critical days of 32 bits.
-fn is_billing(call: &[u64]) -> bool
-    ensures { result ≡ billing_codes call.now }
+// What the record of an opening says, where its codes are known and its month has 32 bits.
+#[tactic(auto, unfolding(crate::specs::Records::opening_codes, crate::specs::Reading::terms_read, crate::specs::Reading::opening_read))]
+fn opening_at(words: &[u64]) -> Option<Call>
+    ensures { result ≡ opening_read words.now }
 {
-    if number_at(call, MONTH_PLACE) < LIMIT_32 {
-        return number_at(call, CRITICAL_PLACE) < LIMIT_32;
-    }
-    false
+    Some(Call::Opening {
+        terms: terms_at(words, TERMS_PLACE)?,
+        prices: prices_at(words, PRICES_PLACE),
+        month: small_at(words, FIRST_MONTH_PLACE)?,
+    })
 }
 
-// Whether a record is a call.
-pub fn is_call(call: &[u64]) -> bool
-    ensures { result ≡ is_call call.now }
+// What the record of a billing says, where its month and critical days have 32 bits.
+#[tactic(auto, unfolding(crate::specs::Records::billing_codes, crate::specs::Reading::billing_read))]
+fn billing_at(words: &[u64]) -> Option<Call>
+    ensures { result ≡ billing_read words.now }
 {
-    let kind = number_at(call, KIND_PLACE);
-    if kind == OPENING {
-        return is_opening(call);
-    }
-    if kind == BILLING {
-        return is_billing(call);
-    }
-    kind <= CLOSING
+    Some(Call::Billing {
+        month: small_at(words, MONTH_PLACE)?,
+        delivered: number_at(words, DELIVERED_PLACE),
+        received: number_at(words, RECEIVED_PLACE),
+        critical_days: small_at(words, CRITICAL_PLACE)?,
+    })
 }
 
-// How many readings a call takes from a register that has some left: a billing those that the number at a place says.
-pub fn readings_taken(call: &[u64], place: usize, left: usize) -> usize
-    ensures { result ≡ min (count_at call.now place) left }
+// What a record says, where it is a call.
+#[tactic(auto, unfolding(crate::specs::Records::is_call, crate::specs::Reading::opening_read, crate::specs::Reading::billing_read, crate::specs::Reading::said_by, crate::specs::Reading::call_read))]
+pub fn call_at(words: &[u64]) -> Option<Call>
+    ensures { result ≡ call_read words.now }
 {
-    if number_at(call, KIND_PLACE) != BILLING {
-        return 0;
-    }
-    let count = number_at(call, place);
-    if count < left as u64 {
-        count as usize
-    } else {
-        left
+    match number_at(words, KIND_PLACE) {
+        OPENING => opening_at(words),
+        REPRICING => Some(Call::Repricing {
+            prices: prices_at(words, PRICES_PLACE),
+        }),
+        BILLING => billing_at(words),
+        CLOSING => Some(Call::Closing),
+        _ => None,
     }
 }
 
-// The sixty numbers of an answer.
+impl Call {
+    // How many readings a call takes from the register delivered: a billing alone takes some.
+    pub fn delivered(self) -> u64
+        ensures { result ≡ delivered_said self }
+    {
+        match self {
+            Call::Billing { delivered, .. } => delivered,
+            _ => 0,
+        }
+    }
+
+    // The same of the register received.
+    pub fn received(self) -> u64
+        ensures { result ≡ received_said self }
+    {
+        match self {
+            Call::Billing { received, .. } => received,
+            _ => 0,
+        }
+    }
+}
+
+// So many readings from the front of a register, or all that it has, and the rest of it.
+pub fn readings_taken(said: u64, register: &[u32]) -> (&[u32], &[u32])
+    ensures front { result.0.now ≡ take said register.now }
+    ensures rest { result.1.now ≡ drop said register.now }
+{
+    register.split_at(said.min(register.len() as u64) as usize)
+}
+
+// The sixty numbers of an answer, one by one in their order: parts copied into a row would each need a place to start at.
 pub fn row_of(answer: Answer) -> [u64; ROW]
     ensures { result ≡ row_of answer }
 {
@@ -328,88 +348,52 @@ pub fn row_of(answer: Answer) -> [u64; ROW]
     ]
 }
 
-// Writes a number at a place, if there is one.
-fn put(buffer: &mut [u64], at: usize, value: u64)
-    ensures { buffer.new ≡ set buffer.old at value }
-{
-    if at < buffer.len() {
-        buffer[at] = value;
-    }
-}
-
 // Writes numbers from a place on; what doesn't fit is left out.
+#[tactic(auto, using(crate::proofs::Writing::copied, crate::proofs::Writing::none_written))]
 pub fn write_numbers(buffer: &mut [u64], start: usize, numbers: &[u64])
     ensures { buffer.new ≡ sets buffer.old start numbers.now }
 {
-    if buffer.len() <= start {
-        return;
+    if start < buffer.len() {
+        let room = buffer.len() - start;
+        let fit = numbers.len().min(room);
+        buffer[start..start + fit].copy_from_slice(&numbers[..fit]);
     }
-    let mut place = 0;
-    while place < numbers.len() {
-        put(buffer, start + place, numbers[place]);
-        place += 1;
-    }
-}
-
-fn rider_code(rider: Rider) -> u64
-    ensures { result ≡ rider_code rider }
-{
-    match rider {
-        Rider::Banked => 0,
-        Rider::Bridge => 1,
-    }
-}
-
-fn class_code(class: Class) -> u64
-    ensures { result ≡ class_code class }
-{
-    match class {
-        Class::Home => 0,
-        Class::Business => 1,
-    }
-}
-
-fn yes_code(yes: bool) -> u64
-    ensures { result ≡ yes_code yes }
-{
-    if yes { 1 } else { 0 }
 }
 
 // Writes terms from a place on; what doesn't fit is left out.
+#[tactic(auto, unfolding(crate::specs::Sections::terms_numbers))]
 pub fn write_terms(buffer: &mut [u64], place: usize, terms: Terms)
     ensures { buffer.new ≡ sets buffer.old place (terms_numbers terms) }
 {
-    let rider = terms.rider;
-    let class = terms.class;
-    let n = terms.nameplates;
+    let [first, second, third, fourth, fifth, sixth, seventh, eighth] = terms.nameplates;
     let numbers = [
-        rider_code(rider),
-        class_code(class),
+        terms.rider as u64,
+        terms.class as u64,
         terms.count,
-        n[0],
-        n[1],
-        n[2],
-        n[3],
-        n[4],
-        n[5],
-        n[6],
-        n[7],
+        first,
+        second,
+        third,
+        fourth,
+        fifth,
+        sixth,
+        seventh,
+        eighth,
         terms.limit,
-        yes_code(terms.assisted),
+        u64::from(terms.assisted),
     ];
-    write_numbers(buffer, place, &numbers[..]);
+    write_numbers(buffer, place, &numbers);
 }
 
 // Writes a price list from a place on; what doesn't fit is left out.
+#[tactic(auto, unfolding(crate::specs::Sections::prices_numbers))]
 pub fn write_prices(buffer: &mut [u64], place: usize, prices: PriceList)
     ensures { buffer.new ≡ sets buffer.old place (prices_numbers prices) }
 {
-    let energy = prices.energy;
     let numbers = [
-        energy.critical,
-        energy.onpeak,
-        energy.offpeak,
-        energy.discount,
+        prices.energy.critical,
+        prices.energy.onpeak,
+        prices.energy.offpeak,
+        prices.energy.discount,
         prices.demand,
         prices.standby,
         prices.bypass,
@@ -418,5 +402,5 @@ pub fn write_prices(buffer: &mut [u64], place: usize, prices: PriceList)
         prices.basic,
         prices.minimum,
     ];
-    write_numbers(buffer, place, &numbers[..]);
+    write_numbers(buffer, place, &numbers);
 }

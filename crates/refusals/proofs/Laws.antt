@@ -10,6 +10,11 @@ use Rattle.calendar.proofs.Booleans.{or_neither}
 use Rattle.tariff.specs.declared.Terms.{Terms}
 use Rattle.tariff.specs.declared.PriceList.{PriceList}
 use Rattle.tariff.specs.Tariff.{prices_refused, nameplates_refused, capacity_refused, bridge_refused}
+use Rattle.std.specs.Prelude.{Result, Ok, Err}
+use Rattle.std.specs.Result.{is_err}
+use Rattle.refusals.specs.declared.Refusal.{Refusal}
+use Rattle.refusals.specs.Numbers.{number, number_of}
+use Rattle.refusals.proofs.Numbers.{number_above}
 use Rattle.refusals.specs.Table.{Row, first_of, some_applies, contents_rows}
 
 -- No row has the number of an accepted call.
@@ -71,16 +76,14 @@ module _ (t : Terms) (l : PriceList) where
   contents_repriced k new e = record { prices = e; nameplates = k.nameplates; capacity = k.capacity; bridge = k.bridge }
 
   -- One of the checks refuses where they answer a number.
-  pub contents_refuse : not (eqb (first_of (contents_rows t l)) 0) ≡ some_applies (contents_rows t l)
+  contents_refuse : not (eqb (first_of (contents_rows t l)) 0) ≡ some_applies (contents_rows t l)
   contents_refuse = sym (applies_is (contents_rows t l) numbered)
 
-  -- The rows after them.
-  pub contents_first : (later : List Row) {n : ℕ} → n ≡ first_of (contents_rows t l) → (n ≡ 0 → ⊥) → n ≡ first_of (contents_rows t l ++ later)
-  contents_first later e z = rw (in_turn_lem (contents_rows t l) later numbered, ne_eqb _ _ (λ g. z (e ∙ g))) e
+  pub contents_err : (r : Result (Unit {0}) Refusal) → number_of r ≡ first_of (contents_rows t l) → is_err r ≡ some_applies (contents_rows t l)
+  contents_err (Ok v) e = rw (← contents_refuse, ← e)
+  contents_err (Err r) e = rw (← contents_refuse, ← e, ne_eqb (number r) 0 (omega (arith, number_above r)))
 
-  pub contents_later : (later : List Row) {n : ℕ} → n ≡ first_of (contents_rows t l) → n ≡ 0 → first_of (contents_rows t l ++ later) ≡ first_of later
-  contents_later later e z = rw (in_turn_lem (contents_rows t l) later numbered, eq-eqb _ _ (sym e ∙ z))
-
+  -- What follows them is asked where they answer none.
   pub contents_passed : (later : List Row) → first_of (contents_rows t l ++ later) ≡ 0 → Contents t l × (first_of later ≡ 0)
   contents_passed later e =
       let (none, rest) = none_in_turn _ _ (sym (in_turn_lem (contents_rows t l) later numbered) ∙ e) in

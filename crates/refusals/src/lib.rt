@@ -1,13 +1,49 @@
-// The table of refusals of document 01, with row 12 of 02 No. 3 and row 13 of 02 No. 4: the number that each call is given, or 0.
+// The table of refusals of document 01, with row 12 of 02 No. 3 and row 13 of 02 No. 4: the first row that refuses each call, if one does.
 #![tactic(auto)]
 
-ghost use Rattle.std.specs.Prelude.{◌≡◌};
+ghost use Rattle.std.specs.Prelude.{◌≡◌, true, false, MatchResult};
 ghost use Rattle.refusals.specs.Table.{first_of, contents_rows, opening_row, repricing_row, billing_row, closing_row};
+ghost use Rattle.refusals.specs.Numbers.{number, number_of};
 
 use tariff::{PriceList, Terms};
 
-// What is wrong with the registers and the critical days of a billing: whether rows 8, 9, 10 and 13 apply.
-#[derive(Clone, Copy)]
+// The rows of the table, each under its number.
+#[derive(Clone, Copy, Debug, PartialEq, Eq)]
+pub enum Refusal {
+    NotOpen = 1,
+    OpenAlready = 2,
+    Closed = 3,
+    PriceList = 4,
+    Capacity = 5,
+    NoBridge = 6,
+    Month = 7,
+    RegisterLength = 8,
+    CriticalDays = 9,
+    Reading = 10,
+    BookFull = 11,
+    Nameplates = 12,
+    FirstReadingLost = 13,
+}
+
+impl From<Refusal> for u32 {
+    ghost from_gives = { λ refusal n. n ≡ number refusal };
+
+    fn from(refusal: Refusal) -> u32 {
+        refusal as u32
+    }
+}
+
+// What the first rows ask of an account: whether it is fresh, whether it is open, and whether it is one that no call can use.
+#[derive(Clone, Copy, Debug, PartialEq, Eq)]
+pub struct Condition {
+    pub fresh: bool,
+    pub opened: bool,
+    pub unusable: bool,
+}
+
+// What is wrong with the registers and the critical days of a billing: whether rows 8, 9, 10 and 13 apply. They stay flags: several rows can apply at once,
+// and no value is meant only where one of them does.
+#[derive(Clone, Copy, Debug, Default, PartialEq, Eq)]
 pub struct Faults {
     pub wronglength: bool,
     pub wrongdays: bool,
@@ -15,84 +51,73 @@ pub struct Faults {
     pub firstlost: bool,
 }
 
-// What an account holds: the rows of an opening between 3 and 7.
-pub fn contents_row(terms: Terms, prices: PriceList) -> u32
-    ensures { result ≡ first_of (contents_rows terms prices) }
+// A row of the table refuses where it applies.
+fn row(applies: bool, refusal: Refusal) -> Result<(), Refusal>
+    ensures { MatchResult result (λ _. applies ≡ false) (λ r. (applies ≡ true) × (r ≡ refusal)) }
 {
-    if tariff::prices_refused(prices) {
-        return 4;
-    }
-    let nameplates = tariff::nameplates_refused(terms);
-    let capacity = tariff::capacity_refused(terms);
-    if nameplates {
-        return 12;
-    }
-    if capacity {
-        return 5;
-    }
-    if tariff::bridge_refused(terms) { 6 } else { 0 }
+    if applies { Err(refusal) } else { Ok(()) }
+}
+
+// What an account holds: the rows of an opening between 3 and 7.
+#[tactic(auto, unfolding(crate::specs::Table::contents_rows))]
+pub fn contents_row(terms: Terms, prices: PriceList) -> Result<(), Refusal>
+    ensures { number_of result ≡ first_of (contents_rows terms prices) }
+{
+    row(prices.is_refused(), Refusal::PriceList)?;
+    row(terms.nameplates_refused(), Refusal::Nameplates)?;
+    row(terms.capacity_refused(), Refusal::Capacity)?;
+    row(terms.bridge_refused(), Refusal::NoBridge)
 }
 
 // Opening an account that is open already or not, and that can be used or not.
-pub fn opening_row(opened: bool, unusable: bool, terms: Terms, prices: PriceList, month: u32) -> u32
-    ensures { result ≡ opening_row opened unusable terms prices month }
+#[tactic(auto, using(crate::proofs::Numbers::number_above), unfolding(crate::specs::Table::opening_row, crate::specs::Table::contents_rows))]
+pub fn opening_row(
+    condition: Condition,
+    terms: Terms,
+    prices: PriceList,
+    month: u32,
+) -> Result<(), Refusal>
+    ensures { number_of result ≡ opening_row condition.opened condition.unusable terms prices month }
 {
-    if opened {
-        return 2;
-    }
-    if unusable {
-        return 3;
-    }
-    let number = contents_row(terms, prices);
-    if number != 0 {
-        return number;
-    }
-    if calendar::LAST_MONTH < month { 7 } else { 0 }
+    row(condition.opened, Refusal::OpenAlready)?;
+    row(condition.unusable, Refusal::Closed)?;
+    contents_row(terms, prices)?;
+    row(calendar::LAST_MONTH < month, Refusal::Month)
 }
 
 // Closing: rows 1 and 3, which are also the first rows of a repricing and a billing.
-pub fn closing_row(fresh: bool, unusable: bool) -> u32
-    ensures { result ≡ closing_row fresh unusable }
+#[tactic(auto, unfolding(crate::specs::Table::closing_row))]
+pub fn closing_row(condition: Condition) -> Result<(), Refusal>
+    ensures { number_of result ≡ closing_row condition.fresh condition.unusable }
 {
-    if fresh {
-        return 1;
-    }
-    if unusable { 3 } else { 0 }
+    row(condition.fresh, Refusal::NotOpen)?;
+    row(condition.unusable, Refusal::Closed)
 }
 
 // Repricing.
-pub fn repricing_row(fresh: bool, unusable: bool, prices: PriceList) -> u32
-    ensures { result ≡ repricing_row fresh unusable prices }
+#[tactic(auto, using(crate::proofs::Numbers::number_above), unfolding(crate::specs::Table::repricing_row, crate::specs::Table::closing_row))]
+pub fn repricing_row(condition: Condition, prices: PriceList) -> Result<(), Refusal>
+    ensures { number_of result ≡ repricing_row condition.fresh condition.unusable prices }
 {
-    let number = closing_row(fresh, unusable);
-    if number != 0 {
-        return number;
-    }
-    if tariff::prices_refused(prices) { 4 } else { 0 }
+    closing_row(condition)?;
+    row(prices.is_refused(), Refusal::PriceList)
 }
 
 // Billing, from what was found to be wrong with it.
-pub fn billing_row(fresh: bool, unusable: bool, next: u32, month: u32, faults: Faults) -> u32
-    ensures { result ≡ billing_row fresh unusable next month faults }
+#[tactic(auto, using(crate::proofs::Numbers::number_above), unfolding(crate::specs::Table::billing_row, crate::specs::Table::closing_row))]
+pub fn billing_row(
+    condition: Condition,
+    next: u32,
+    month: u32,
+    faults: Faults,
+) -> Result<(), Refusal>
+    ensures { number_of result ≡ billing_row condition.fresh condition.unusable next month faults }
 {
-    let number = closing_row(fresh, unusable);
-    if number != 0 {
-        return number;
-    }
-    if calendar::LAST_MONTH < next {
-        return 11;
-    }
-    if month != next {
-        return 7;
-    }
-    if faults.wronglength {
-        return 8;
-    }
-    if faults.wrongdays {
-        return 9;
-    }
-    if faults.abovelimit {
-        return 10;
-    }
-    if faults.firstlost { 13 } else { 0 }
+    closing_row(condition)?;
+    row(calendar::LAST_MONTH < next, Refusal::BookFull)?;
+    row(month != next, Refusal::Month)?;
+    row(faults.wronglength, Refusal::RegisterLength)?;
+    row(faults.wrongdays, Refusal::CriticalDays)?;
+    row(faults.abovelimit, Refusal::Reading)?;
+    row(faults.firstlost, Refusal::FirstReadingLost)
 }

@@ -1,5 +1,5 @@
 -- The steps of the one pass over a register, over plain values: where a day starts, each of its pairs, and where it ends.
-use mathlib.Core.Path.{◌≡◌, refl, sym}
+use mathlib.Core.Path.{◌≡◌, refl, ◌∙◌}
 use mathlib.Core.Bool.{Bool, true, false, cond, ◌||◌}
 use mathlib.Core.List.{List}
 use Prim.Native.Nat.{ℕ, ◌+◌, ◌*◌, ◌%◌, ◌^◌, ◌≤◌, ◌<◌, max}
@@ -8,23 +8,24 @@ use native.Mathlib.Omega.{arith}
 use borrow.Author.Tests.{le-ltb}
 use lib.Dec.{eqb, ltb}
 use lib.ListN.{length, get_or}
+use Rattle.std.specs.Prelude.{Option, Some, None}
 use Rattle.calendar.specs.Calendar.{days_in, day_length, readings_through, month_length, most_readings}
 use Rattle.calendar.proofs.Laws.{through_none, through_more, through_mono, month_length-is, month_length-le}
 use Rattle.hours.specs.Hours.{critical, on_peak, off_peak, discount, is_peak, period_of}
 use Rattle.registers.specs.declared.Count.{Count}
 use Rattle.registers.specs.declared.Tally.{Tally}
 use Rattle.registers.specs.Registers.{counts_as, day_sum, days_sum, sum_of, demand_power, reading_limit, reading_refused, first_lost, tally_of}
-use Rattle.registers.specs.Counting.{Room, counts_after, Added, AddedPair, FilledPair, Counted, DayCounted}
+use Rattle.registers.specs.Counting.{Room, counts_after, AddedTo, Added, AddedPair, FilledPair, Counted, DayCounted}
 use Rattle.registers.proofs.Laws.{sum_none, sum_more, days_sum_none, days_sum_more, largest_none, largest_more, days_largest_none, days_largest_more}
 use Rattle.registers.proofs.Laws.{cond-le, known_none, known_more, counts_as_lem, counts_itself, counts_next, counts_le, above_none, above_more, sum_le, days_sum_le, power_le, wrong_length, right_length}
 
 -- Where the two readings of a pair fit, the second fits after the first.
 pub room_after : (a b : Count) {p v : ℕ} → Room 2 a → b.last ≤ 4294967295 → Added a p v b → Room 1 b
 room_after a b {p} {v} k h s = record {
-  critical = fits critical a.critical k.critical s.critical;
-  onpeak = fits on_peak a.onpeak k.onpeak s.onpeak;
-  offpeak = fits off_peak a.offpeak k.offpeak s.offpeak;
-  discount = fits discount a.discount k.discount s.discount;
+  critical = fits critical a.sums.critical k.critical s.sums.critical;
+  onpeak = fits on_peak a.sums.onpeak k.onpeak s.sums.onpeak;
+  offpeak = fits off_peak a.sums.offpeak k.offpeak s.sums.offpeak;
+  discount = fits discount a.sums.discount k.discount s.sums.discount;
 }
   where
     fits : (q u : ℕ) {w : ℕ} → u + 2 * 4294967295 < 2 ^ 64 → w ≡ u + cond (eqb p q) v 0 → w + 1 * 4294967295 < 2 ^ 64
@@ -34,12 +35,12 @@ room_after a b {p} {v} k h s = record {
 pub pair_both : (a b d : Count) (w : ℕ) {p q v largest : ℕ} → Added a p v b → Added b q (counts_after b.last w) d
     → largest ≡ max d.largest (cond (is_peak p || is_peak q) (b.last + d.last) 0)
     → AddedPair a p q v (counts_after v w)
-    (record { critical = d.critical; onpeak = d.onpeak; offpeak = d.offpeak; discount = d.discount; largest = largest; above = d.above; last = d.last })
+    (record { sums = d.sums; largest = largest; above = d.above; last = d.last })
 pair_both a b d w s t e = record {
-  critical = rw (← s.critical, ← s.last) t.critical;
-  onpeak = rw (← s.onpeak, ← s.last) t.onpeak;
-  offpeak = rw (← s.offpeak, ← s.last) t.offpeak;
-  discount = rw (← s.discount, ← s.last) t.discount;
+  critical = rw (← s.sums.critical, ← s.last) t.sums.critical;
+  onpeak = rw (← s.sums.onpeak, ← s.last) t.sums.onpeak;
+  offpeak = rw (← s.sums.offpeak, ← s.last) t.sums.offpeak;
+  discount = rw (← s.sums.discount, ← s.last) t.sums.discount;
   largest = rw (← s.largest, ← t.largest, ← s.last, ← t.last) e;
   above = rw (← s.above, ← s.last) t.above;
   last = rw (← s.last) t.last;
@@ -50,13 +51,6 @@ pub pair_known : (a d : Count) (v w : ℕ) {p q : ℕ} → v + w ≤ reading_lim
     → FilledPair a p q v w d
 pair_known a d v w h s = rw (counts_itself a.last v (omega arith), counts_itself v w (omega arith)) s
 
-pub split_sum : (p q u v w : ℕ) {sum : ℕ} → sum ≡ cond (eqb p q) (v + w) 0 → u + sum ≡ u + cond (eqb p q) v 0 + cond (eqb p q) w 0
-split_sum p q u v w = by (eqb p q)
-  where
-    by : (b : Bool) {sum : ℕ} → sum ≡ cond b (v + w) 0 → u + sum ≡ u + cond b v 0 + cond b w 0
-    by true e = omega arith
-    by false e = omega arith
-
 pub neither_above : (b : Bool) (v w : ℕ) → v + w ≤ reading_limit → b ≡ ((b || ltb reading_limit v) || ltb reading_limit w)
 neither_above b v w h = rw (le-ltb reading_limit v (omega arith), le-ltb reading_limit w (omega arith)) (by b)
   where
@@ -64,16 +58,37 @@ neither_above b v w h = rw (le-ltb reading_limit v (omega arith), le-ltb reading
     by true = refl
     by false = refl
 
+split_sum : (p q u v w : ℕ) {sum : ℕ} → sum ≡ u + cond (eqb p q) (v + w) 0 → sum ≡ u + cond (eqb p q) v 0 + cond (eqb p q) w 0
+split_sum p q u v w = by (eqb p q)
+  where
+    by : (b : Bool) {sum : ℕ} → sum ≡ u + cond b (v + w) 0 → sum ≡ u + cond b v 0 + cond b w 0
+    by true e = omega arith
+    by false e = omega arith
+
+-- Both readings of a pair added at once.
+pub pair_at_once : (a b : Count) (p v w : ℕ) → v + w ≤ reading_limit → AddedTo a.sums p (v + w) b.sums
+    → b.largest ≡ max a.largest (cond (is_peak p || is_peak p) (v + w) 0) → b.above ≡ a.above → b.last ≡ w → AddedPair a p p v w b
+pair_at_once a b p v w h s l above last = record {
+  critical = split_sum p critical a.sums.critical v w s.critical;
+  onpeak = split_sum p on_peak a.sums.onpeak v w s.onpeak;
+  offpeak = split_sum p off_peak a.sums.offpeak v w s.offpeak;
+  discount = split_sum p discount a.sums.discount v w s.discount;
+  largest = l;
+  above = above ∙ neither_above a.above v w h;
+  last = last;
+}
+
 module _ (schedule : List ℕ) (m x : ℕ) (r : List ℕ) where
-  pub month_start : Counted schedule m x r 0 (record { critical = 0; onpeak = 0; offpeak = 0; discount = 0; largest = 0; above = false; last = 0 })
-  month_start = record {
-    critical = sym (days_sum_none schedule m x r critical);
-    onpeak = sym (days_sum_none schedule m x r on_peak);
-    offpeak = sym (days_sum_none schedule m x r off_peak);
-    discount = sym (days_sum_none schedule m x r discount);
-    largest = sym (days_largest_none schedule m x r);
-    above = rw (through_none m, above_none r);
-    last = rw (through_none m, known_none r);
+  pub month_start : (a : Count) → a.sums.critical ≡ 0 → a.sums.onpeak ≡ 0 → a.sums.offpeak ≡ 0 → a.sums.discount ≡ 0 → a.largest ≡ 0 → a.above ≡ false → a.last ≡ 0
+      → Counted schedule m x r 0 a
+  month_start a critical_none onpeak_none offpeak_none discount_none largest_is above_is last_is = record {
+    critical = omega (arith, days_sum_none schedule m x r critical);
+    onpeak = omega (arith, days_sum_none schedule m x r on_peak);
+    offpeak = omega (arith, days_sum_none schedule m x r off_peak);
+    discount = omega (arith, days_sum_none schedule m x r discount);
+    largest = omega (arith, days_largest_none schedule m x r);
+    above = rw (through_none m, above_none r) above_is;
+    last = rw (through_none m, known_none r) last_is;
   }
 
   pub day_start : (n : ℕ) (a : Count) → Counted schedule m x r n a → DayCounted schedule m x r n 0 a
@@ -156,28 +171,18 @@ module _ (schedule : List ℕ) (m x : ℕ) (r : List ℕ) where
   power_fits w a k = omega (arith, k.largest, power_le schedule m x r 4294967295 (counts_le r 4294967295 w))
 
   -- The tally of a register of the wrong length, and of one of the right length that was counted.
-  pub wrong_tally : (length r ≡ month_length m → ⊥) →
-      ◌≡◌ {A = Tally}
-      (record {
-        wronglength = true;
-        abovelimit = false;
-        firstlost = false;
-        sums = record { critical = 0; onpeak = 0; offpeak = 0; discount = 0 };
-        power = 0;
-      })
-      (tally_of schedule m x r)
+  pub wrong_tally : (length r ≡ month_length m → ⊥) → None ≡ tally_of schedule m x r
   unfolding tally_of
   wrong_tally h = rw (wrong_length m r refl h)
 
   pub right_tally : (a : Count) {b : Bool} → length r ≡ month_length m → b ≡ first_lost r → Counted schedule m x r (days_in m) a →
-      ◌≡◌ {A = Tally}
-      (record {
-        wronglength = false;
+      ◌≡◌ {A = Option Tally}
+      (Some (record {
         abovelimit = a.above;
         firstlost = b;
-        sums = record { critical = a.critical; onpeak = a.onpeak; offpeak = a.offpeak; discount = a.discount };
+        sums = a.sums;
         power = 2 * a.largest;
-      })
+      }))
       (tally_of schedule m x r)
   unfolding tally_of sum_of demand_power reading_refused
   right_tally a h e k =

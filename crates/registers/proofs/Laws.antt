@@ -1,5 +1,5 @@
 -- What callers know of the sums, the demand and the limit of readings: they cite these laws and `Totals`, and open no definition.
-use mathlib.Core.Path.{◌≡◌, refl, ◌∙◌, sym}
+use mathlib.Core.Path.{◌≡◌, refl, ◌∙◌, sym, ap}
 use mathlib.Core.Bool.{Bool, true, false, cond, not, ◌&&◌, ◌||◌}
 use mathlib.Core.List.{List}
 use mathlib.Core.Logic.{⊎_elim}
@@ -14,6 +14,8 @@ use Rattle.calendar.specs.Calendar.{days_in, day_length, readings_through, month
 use Rattle.calendar.proofs.Booleans.{or_neither}
 use Rattle.calendar.proofs.Laws.{through_next, month_length-is, month_length-le}
 use Rattle.hours.specs.Hours.{is_peak, period_of, by_period}
+use Rattle.std.specs.Prelude.{Option, Some, None}
+use Rattle.std.specs.Option.{unwrap_or}
 use Rattle.registers.specs.declared.Tally.{Tally}
 use Rattle.registers.specs.Counting.{counts_after}
 use Rattle.registers.specs.Registers.{reading, lost_mark, is_lost, last_known, counts_as, day_sum, days_sum, sum_of, pair_counts, pair_sum, day_largest, days_largest, demand_power}
@@ -195,25 +197,29 @@ module _ (schedule : List ℕ) (m x : ℕ) (r : List ℕ) (bound : ℕ) (within 
 pub power_within : (schedule : List ℕ) (m x : ℕ) (r : List ℕ) → reading_refused r ≡ false → demand_power schedule m x r ≤ 4 * reading_limit
 power_within schedule m x r e = power_le schedule m x r reading_limit (readings_within r e)
 
--- A tally's fields.
+-- What there is a tally of.
 module _ (schedule : List ℕ) (m x : ℕ) (r : List ℕ) where
-  pub tally_length : (tally_of schedule m x r).wronglength ≡ length_refused m r
-  unfolding tally_of
-  tally_length = by (length_refused m r) refl
-    where
-      by : (b : Bool) → length_refused m r ≡ b → (tally_of schedule m x r).wronglength ≡ length_refused m r
-      by true e = rw e
-      by false e = rw e
-
-  pub tally_right : length_refused m r ≡ false →
-      ◌≡◌ {A = Tally}
-      (tally_of schedule m x r)
-      (record {
-        wronglength = false;
+  abbrev pub counted : Tally
+  counted =
+      record {
         abovelimit = reading_refused r;
         firstlost = first_lost r;
         sums = by_period (sum_of schedule m x r);
         power = demand_power schedule m x r;
-      })
+      }
+
+  pub tally_wrong : None ≡ tally_of schedule m x r → length_refused m r ≡ true
   unfolding tally_of
-  tally_right e = rw e
+  tally_wrong = by (length_refused m r)
+    where
+      by : (b : Bool) → ◌≡◌ {A = Option Tally} None (cond b None (Some counted)) → b ≡ true
+      by true e = refl
+      by false e = cc
+
+  pub tally_right : (t : Tally) → Some t ≡ tally_of schedule m x r → (length_refused m r ≡ false) × (t ≡ counted)
+  unfolding tally_of
+  tally_right t = by (length_refused m r)
+    where
+      by : (b : Bool) → ◌≡◌ {A = Option Tally} (Some t) (cond b None (Some counted)) → (b ≡ false) × (t ≡ counted)
+      by true e = cc
+      by false e = (refl, ap (λ o. unwrap_or o t) e)

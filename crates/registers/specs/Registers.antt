@@ -1,7 +1,7 @@
 -- Document 01, "Billing" and the table of refusals: what a bill reads from one register, which is step 2, the demand of step 6, and
 -- refusals 8 and 10; 02 No. 4, lost readings and refusal 13; and 02 No. 6, the pairs of step 6. m is a month, x the number that names its
 -- critical days, r the readings of a register, p a period.
-use Rattle.std.specs.Prelude.{Bool, true, false, cond, not, ◌&&◌, ◌||◌, List, ℕ, zero, suc, ◌+◌, ◌*◌, ◌/◌, max, eqb, ltb, length, get_or}
+use Rattle.std.specs.Prelude.{Bool, false, cond, not, ◌&&◌, ◌||◌, Option, Some, None, List, ℕ, zero, suc, ◌+◌, ◌*◌, ◌/◌, max, eqb, ltb, length, get_or}
 use Rattle.calendar.specs.Calendar.{days_in, day_length, readings_through, month_length, most_readings}
 use Rattle.hours.specs.Hours.{is_peak, period_of, by_period}
 use Rattle.registers.specs.declared.Tally.{Tally}
@@ -100,16 +100,15 @@ first_lost r = is_lost r 0
 unfoldable pub length_refused : ℕ → List ℕ → Bool
 length_refused m r = not (eqb (length r) (month_length m))
 
--- All that a bill reads from one register: refusals 8, 10 and 13, the sums by period and, of the delivered one, the power of the demand line. Of a
--- register of the wrong length nothing else is read: row 8 comes before the others.
-unfoldable pub tally_of : List ℕ → ℕ → ℕ → List ℕ → Tally
+-- All that a bill reads from one register: refusals 10 and 13, the sums by period and, of the delivered one, the power of the demand line. Of a
+-- register of the wrong length, refusal 8, nothing is read: row 8 comes before the others.
+unfoldable pub tally_of : List ℕ → ℕ → ℕ → List ℕ → Option Tally
 tally_of schedule m x r =
     cond (length_refused m r)
-    (record { wronglength = true; abovelimit = false; firstlost = false; sums = by_period (λ p. 0); power = 0 })
-    (record {
-      wronglength = false;
+    None
+    (Some (record {
       abovelimit = reading_refused r;
       firstlost = first_lost r;
       sums = by_period (sum_of schedule m x r);
       power = demand_power schedule m x r;
-    })
+    }))

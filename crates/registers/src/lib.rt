@@ -1,30 +1,29 @@
 // What a bill reads from a register, and the day view. Registers are lent and only read.
 #![tactic(auto)]
 
-ghost use Rattle.std.specs.Prelude.{◌≡◌, cond, ◌||◌, ◌+◌, ◌%◌, ◌<◌, ◌≤◌, max, eqb, ltb, length};
+ghost use Rattle.std.specs.Prelude.{◌≡◌, cond, ◌||◌, ◌+◌, ◌%◌, ◌<◌, ◌≤◌, ◌^◌, ℕ, eqb, length, slice_index};
 ghost use Rattle.calendar.specs.Calendar.{days_in, clock_of, day_length, readings_through, month_length};
 ghost use Rattle.hours.specs.Hours.{is_peak, period_on_day};
 ghost use Rattle.registers.specs.Registers.{reading_limit, first_lost, tally_of};
 ghost use Rattle.registers.specs.DayView.{empty_view, view_of, IsPart};
-ghost use Rattle.registers.specs.Counting.{Room, counts_after, Added, AddedPair, FilledPair, Counted, DayCounted, Follows};
+ghost use Rattle.registers.specs.Counting.{HasRoom, Room, counts_after, AddedTo, Added, AddedPair, FilledPair, Counted, DayCounted, Follows};
 
 use calendar::Clock;
-use hours::{ByPeriod, DayHours};
+use hours::{ByPeriod, DayHours, SCHEDULE_LENGTH};
 
 // The largest reading that is accepted, in Wh, beside the mark of a lost one.
 const READING_LIMIT: u32 = 1_000_000;
 
 // What a register holds in the place of a reading that is lost.
-const LOST: u32 = 4_294_967_295;
+const LOST: u32 = u32::MAX;
 
 // The most Wh that a month's register comes to.
 pub const MONTH_LIMIT: u64 = calendar::MOST_READINGS as u64 * READING_LIMIT as u64;
 
-// All that a bill reads from one register: whether its length is wrong, a reading above the limit or the first one lost, the sums by
-// period, and the power in W that the demand line prices.
-#[derive(Clone, Copy)]
+// All that a bill reads from one register: whether a reading is above the limit or the first one lost, the sums by period, and the power in
+// W that the demand line prices.
+#[derive(Clone, Copy, PartialEq, Eq, Default, Debug)]
 pub struct Tally {
-    pub wronglength: bool,
     pub abovelimit: bool,
     pub firstlost: bool,
     pub sums: ByPeriod,
@@ -33,18 +32,16 @@ pub struct Tally {
 
 // What the readings so far come to: sums by period, the largest sum of a pair that counts, whether a reading is above the limit, and what the
 // last one counts as, or 0.
-#[derive(Clone, Copy)]
+#[derive(Clone, Copy, Default)]
 struct Count {
-    critical: u64,
-    onpeak: u64,
-    offpeak: u64,
-    discount: u64,
+    sums: ByPeriod,
     largest: u64,
     above: bool,
     last: u32,
 }
 
 // What a reading counts as after the last one that isn't lost.
+#[tactic(auto, unfolding(crate::specs::Counting::counts_after))]
 fn counts_after(last: u32, reading: u32) -> u32
     ensures { result ≡ counts_after last reading }
 {
@@ -52,13 +49,11 @@ fn counts_after(last: u32, reading: u32) -> u32
 }
 
 // Whether a register's first reading is lost.
+#[tactic(auto, unfolding(crate::specs::Registers::first_lost, crate::specs::Registers::is_lost, crate::specs::Registers::reading))]
 fn first_lost(register: &[u32]) -> bool
     ensures { result ≡ first_lost register.now }
 {
-    if register.len() == 0 {
-        return false;
-    }
-    register[0] == LOST
+    register.first() == Some(&LOST)
 }
 
 // The amount where the period is the one wanted, else 0.
@@ -69,43 +64,35 @@ fn in_period(period: u8, wanted: u8, amount: u64) -> u64
     if period == wanted { amount } else { 0 }
 }
 
+// The sums with an amount more in a period.
+fn plus(sums: ByPeriod, period: u8, amount: u64) -> ByPeriod
+    requires { HasRoom amount sums }
+    ensures { AddedTo sums period amount result }
+{
+    ByPeriod {
+        critical: sums.critical + in_period(period, hours::CRITICAL, amount),
+        onpeak: sums.onpeak + in_period(period, hours::ON_PEAK, amount),
+        offpeak: sums.offpeak + in_period(period, hours::OFF_PEAK, amount),
+        discount: sums.discount + in_period(period, hours::DISCOUNT, amount),
+    }
+}
+
 // The sum of a pair.
 fn pair_sum(reading: u32, next: u32) -> u64
     ensures { result ≡ reading + next }
 {
-    reading as u64 + next as u64
+    u64::from(reading) + u64::from(next)
 }
 
 // The sum of a pair where it counts, which it does if either period is 0 or 1, else 0.
 fn counting_sum(period: u8, next_period: u8, reading: u32, next: u32) -> u64
     ensures { result ≡ cond (is_peak period || is_peak next_period) (reading + next) 0 }
 {
-    let both = pair_sum(reading, next);
-    if period <= hours::ON_PEAK {
-        return both;
-    }
-    if next_period <= hours::ON_PEAK {
-        both
+    if period <= hours::ON_PEAK || next_period <= hours::ON_PEAK {
+        pair_sum(reading, next)
     } else {
         0
     }
-}
-
-// The larger of two amounts.
-fn larger(a: u64, b: u64) -> u64
-    ensures { result ≡ max a b }
-{
-    if a < b { b } else { a }
-}
-
-// Whether a reading, or one before it, is above the limit.
-fn some_above(before: bool, reading: u32) -> bool
-    ensures { result ≡ (before || ltb reading_limit reading) }
-{
-    if before {
-        return true;
-    }
-    READING_LIMIT < reading
 }
 
 impl Count {
@@ -116,19 +103,10 @@ impl Count {
         ensures { Added self period (counts_after self.last reading) result }
     {
         let counted = counts_after(self.last, reading);
-        let above = some_above(self.above, counted);
-        let amount = counted as u64;
-        let critical = self.critical + in_period(period, hours::CRITICAL, amount);
-        let onpeak = self.onpeak + in_period(period, hours::ON_PEAK, amount);
-        let offpeak = self.offpeak + in_period(period, hours::OFF_PEAK, amount);
-        let discount = self.discount + in_period(period, hours::DISCOUNT, amount);
         Count {
-            critical,
-            onpeak,
-            offpeak,
-            discount,
+            sums: plus(self.sums, period, u64::from(counted)),
             largest: self.largest,
-            above,
+            above: self.above | (READING_LIMIT < counted),
             last: counted,
         }
     }
@@ -143,13 +121,8 @@ impl Count {
         let whole = half.add(next_period, next);
         let sum = counting_sum(period, next_period, earlier, whole.last);
         Count {
-            critical: whole.critical,
-            onpeak: whole.onpeak,
-            offpeak: whole.offpeak,
-            discount: whole.discount,
-            largest: larger(whole.largest, sum),
-            above: whole.above,
-            last: whole.last,
+            largest: whole.largest.max(sum),
+            ..whole
         }
     }
 
@@ -159,18 +132,11 @@ impl Count {
         requires next_bound { reading + next ≤ reading_limit }
         ensures { AddedPair self period period reading next result }
     {
-        let sum = pair_sum(reading, next);
-        let critical = self.critical + in_period(period, hours::CRITICAL, sum);
-        let onpeak = self.onpeak + in_period(period, hours::ON_PEAK, sum);
-        let offpeak = self.offpeak + in_period(period, hours::OFF_PEAK, sum);
-        let discount = self.discount + in_period(period, hours::DISCOUNT, sum);
-        let largest = larger(self.largest, counting_sum(period, period, reading, next));
         Count {
-            critical,
-            onpeak,
-            offpeak,
-            discount,
-            largest,
+            sums: plus(self.sums, period, pair_sum(reading, next)),
+            largest: self
+                .largest
+                .max(counting_sum(period, period, reading, next)),
             above: self.above,
             last: next,
         }
@@ -184,27 +150,25 @@ impl Count {
     {
         let sum = pair_sum(reading, next);
         if entry == hours::OFF_PEAK {
-            let offpeak = self.offpeak + sum;
+            let sums = ByPeriod {
+                offpeak: self.sums.offpeak + sum,
+                ..self.sums
+            };
             return Count {
-                critical: self.critical,
-                onpeak: self.onpeak,
-                offpeak,
-                discount: self.discount,
-                largest: self.largest,
-                above: self.above,
+                sums,
                 last: next,
+                ..self
             };
         }
         if entry == hours::DISCOUNT {
-            let discount = self.discount + sum;
+            let sums = ByPeriod {
+                discount: self.sums.discount + sum,
+                ..self.sums
+            };
             return Count {
-                critical: self.critical,
-                onpeak: self.onpeak,
-                offpeak: self.offpeak,
-                discount,
-                largest: self.largest,
-                above: self.above,
+                sums,
                 last: next,
+                ..self
             };
         }
         self.add_at_once(hours::period_on(day, entry), reading, next)
@@ -216,10 +180,8 @@ impl Count {
         requires { Room 2 self }
         ensures { FilledPair self (period_on_day day.critical entry) (period_on_day day.critical next_entry) reading next result }
     {
-        if entry == next_entry {
-            if reading as u64 + next as u64 <= READING_LIMIT as u64 {
-                return self.add_same_entry(day, entry, reading, next);
-            }
+        if entry == next_entry && reading as u64 + next as u64 <= READING_LIMIT as u64 {
+            return self.add_same_entry(day, entry, reading, next);
         }
         let period = hours::period_on(day, entry);
         let next_period = hours::period_on(day, next_entry);
@@ -234,191 +196,138 @@ fn stretch_end(clock: Clock, length: usize, place: usize) -> usize
     ensures upper_bound { (result ≤ length) × (result % 2 ≡ 0) }
     ensures follows { Follows clock place result }
 {
-    if calendar::CHANGE_QUARTER <= place {
-        return length;
-    }
     match clock {
         Clock::Unchanged => length,
+        _ if calendar::CHANGE_QUARTER <= place => length,
         _ => calendar::CHANGE_QUARTER,
     }
 }
 
-// The count with some pairs more of the day after the first days, whose readings start at the place given: those from one place of the
-// day to another, whose quarters follow each other.
-fn count_stretch(
-    count: Count,
-    schedule: &[u8; 384],
-    register: &[u32],
+// A day of a month's register, lent with the schedule that says its hours: the days of the month before it, the place where its readings start, and what
+// the clocks do on it.
+#[derive(Clone, Copy)]
+struct Day<'a> {
+    schedule: &'a [u8; SCHEDULE_LENGTH],
+    register: &'a [u32],
     month: u32,
     critical_days: u32,
-    clock: Clock,
     before: u32,
     start: usize,
-    from: usize,
-    to: usize,
-) -> Count
-    requires day_counted { DayCounted schedule.now month critical_days register.now before from count }
-    requires before_bound { before < days_in month }
-    requires start_value { start ≡ readings_through month before }
-    requires register_len { length register.now ≡ month_length month }
-    requires clock_value { clock ≡ clock_of month (before + 1) }
-    requires to_bound { to ≤ day_length month (before + 1) }
-    requires follows { Follows clock from to }
-    requires from_value { (from % 2 ≡ 0) × (to % 2 ≡ 0) }
-    ensures { DayCounted schedule.now month critical_days register.now before to result }
-{
-    let day = before + 1;
-    let day_hours = hours::day_hours(month, day, critical_days);
-    let row = day_hours.row;
-    let first_quarter = calendar::quarter_by(clock, from as u32);
-    let mut so_far = count;
-    let mut place = from;
-    while place < to {
-        let quarter = first_quarter + (place - from);
-        let entry = schedule[row + quarter];
-        let next_entry = schedule[row + (quarter + 1)];
-        let reading = register[start + place];
-        let next = register[start + (place + 1)];
-        so_far = so_far.add_pair(day_hours, entry, next_entry, reading, next);
-        place += 2;
-    }
-    so_far
+    clock: Clock,
+    ghost whole_month: { length register.now ≡ month_length month },
+    ghost of_32_bits: { (i : ℕ) → slice_index register.now i < 2 ^ 32 },
+    ghost in_month: { before < days_in month },
+    ghost at_start: { start ≡ readings_through month before },
+    ghost by_clock: { clock ≡ clock_of month (before + 1) },
 }
 
-// The count with the readings of one day more. It goes by stretches, nearly always one, since a test for each reading made a bill a third slower.
-fn count_day(
-    count: Count,
-    schedule: &[u8; 384],
-    register: &[u32],
-    month: u32,
-    critical_days: u32,
-    clock: Clock,
-    before: u32,
-    start: usize,
-) -> Count
-    requires counted { Counted schedule.now month critical_days register.now before count }
-    requires before_bound { before < days_in month }
-    requires start_value { start ≡ readings_through month before }
-    requires register_len { length register.now ≡ month_length month }
-    requires clock_value { clock ≡ clock_of month (before + 1) }
-    ensures { Counted schedule.now month critical_days register.now (before + 1) result }
-{
-    let length = calendar::length_by(clock);
-    let mut so_far = count;
-    let mut from = 0;
-    while from < length {
-        let to = stretch_end(clock, length, from);
-        so_far = count_stretch(
-            so_far,
-            schedule,
-            register,
-            month,
-            critical_days,
-            clock,
-            before,
-            start,
-            from,
-            to,
-        );
-        from = to;
+impl Day<'_> {
+    // The count with some pairs more of the day: those from one place of it to another, whose quarters follow each other.
+    fn count_stretch(self, count: Count, from: usize, to: usize) -> Count
+        requires day_counted { DayCounted self.schedule.now self.month self.critical_days self.register.now self.before from count }
+        requires to_bound { to ≤ day_length self.month (self.before + 1) }
+        requires follows { Follows self.clock from to }
+        requires even { (from % 2 ≡ 0) × (to % 2 ≡ 0) }
+        ensures { DayCounted self.entry.schedule.now self.entry.month self.entry.critical_days self.entry.register.now self.entry.before to result }
+    {
+        let day_hours = hours::day_hours(self.month, self.before + 1, self.critical_days);
+        let row = day_hours.row;
+        let first_quarter = calendar::quarter_by(self.clock, from as u32);
+        let mut so_far = count;
+        for half_hour in from / 2..to / 2 {
+            let place = 2 * half_hour;
+            let quarter = first_quarter + (place - from);
+            let entry = self.schedule[row + quarter];
+            let next_entry = self.schedule[row + (quarter + 1)];
+            let reading = self.register[self.start + place];
+            let next = self.register[self.start + (place + 1)];
+            so_far = so_far.add_pair(day_hours, entry, next_entry, reading, next);
+        }
+        so_far
     }
-    so_far
+
+    // The count with the readings of the day. It goes by stretches, nearly always one, since a test for each reading made a bill a third slower; they have no one
+    // length, so this stays a `while`.
+    fn count(self, count: Count) -> Count
+        requires { Counted self.schedule.now self.month self.critical_days self.register.now self.before count }
+        ensures { Counted self.entry.schedule.now self.entry.month self.entry.critical_days self.entry.register.now (self.entry.before + 1) result }
+    {
+        let length = calendar::length_by(self.clock);
+        let mut so_far = count;
+        let mut from = 0;
+        while from < length {
+            let to = stretch_end(self.clock, length, from);
+            so_far = self.count_stretch(so_far, from, to);
+            from = to;
+        }
+        so_far
+    }
 }
 
 // The count of a whole month.
-fn count_month(schedule: &[u8; 384], register: &[u32], month: u32, critical_days: u32) -> Count
+fn count_month(
+    schedule: &[u8; SCHEDULE_LENGTH],
+    register: &[u32],
+    month: u32,
+    critical_days: u32,
+) -> Count
     requires { length register.now ≡ month_length month }
     ensures { Counted schedule.now month critical_days register.now (days_in month) result }
 {
     let days = calendar::days_in(month);
     let change = calendar::change_of(month);
-    let mut count = Count {
-        critical: 0,
-        onpeak: 0,
-        offpeak: 0,
-        discount: 0,
-        largest: 0,
-        above: false,
-        last: 0,
-    };
+    let mut count = Count::default();
     let mut start = 0;
-    let mut before = 0;
-    while before < days {
+    for before in 0..days {
         let clock = calendar::clock_on(change, before + 1);
-        count = count_day(
-            count,
+        let day = Day {
             schedule,
             register,
             month,
             critical_days,
-            clock,
             before,
             start,
-        );
+            clock,
+        };
+        count = day.count(count);
         start += calendar::length_by(clock);
-        before += 1;
     }
     count
 }
 
-// All that a bill reads from one register.
-pub fn tally_of(schedule: &[u8; 384], register: &[u32], month: u32, critical_days: u32) -> Tally
+// All that a bill reads from one register, where it has the month's length.
+pub fn tally_of(
+    schedule: &[u8; SCHEDULE_LENGTH],
+    register: &[u32],
+    month: u32,
+    critical_days: u32,
+) -> Option<Tally>
     ensures value { result ≡ tally_of schedule.now month critical_days register.now }
-    ensures schedule_value { schedule.now ≡ schedule.now }
-    ensures register_value { register.now ≡ register.now }
 {
     if register.len() != calendar::month_length(month) {
-        return Tally {
-            wronglength: true,
-            abovelimit: false,
-            firstlost: false,
-            sums: ByPeriod {
-                critical: 0,
-                onpeak: 0,
-                offpeak: 0,
-                discount: 0,
-            },
-            power: 0,
-        };
+        return None;
     }
     let count = count_month(schedule, register, month, critical_days);
-    let firstlost = first_lost(register);
-    let power = 2 * count.largest;
-    Tally {
-        wronglength: false,
+    Some(Tally {
         abovelimit: count.above,
-        firstlost,
-        sums: ByPeriod {
-            critical: count.critical,
-            onpeak: count.onpeak,
-            offpeak: count.offpeak,
-            discount: count.discount,
-        },
-        power,
-    }
+        firstlost: first_lost(register),
+        sums: count.sums,
+        power: 2 * count.largest,
+    })
 }
 
 // Whether the day view is empty: no such month, day or register, or a register of another length than the month's.
+#[tactic(auto, unfolding(crate::specs::DayView::empty_view, crate::specs::Registers::length_refused))]
 pub fn empty_view(delivered: &[u32], received: &[u32], month: u32, day: u32, number: u32) -> bool
     ensures { result ≡ empty_view delivered.now received.now month day number }
 {
-    if calendar::LAST_MONTH < month {
-        return true;
-    }
-    if day < 1 {
-        return true;
-    }
-    if calendar::days_in(month) < day {
-        return true;
-    }
     let length = calendar::month_length(month);
-    if delivered.len() != length {
-        return true;
-    }
-    if received.len() != length {
-        return true;
-    }
-    1 < number
+    calendar::LAST_MONTH < month
+        || day < 1
+        || calendar::days_in(month) < day
+        || delivered.len() != length
+        || received.len() != length
+        || 1 < number
 }
 
 // The readings of one day, as a part of the register named: 0 is delivered, 1 received.
@@ -430,8 +339,6 @@ pub fn day_view<'a>(
     number: u32,
 ) -> &'a [u32]
     ensures part { IsPart (view_of delivered.entry received.entry month day number) result }
-    ensures delivered_value { delivered.now ≡ delivered.now }
-    ensures received_value { received.now ≡ received.now }
 {
     if empty_view(delivered, received, month, day, number) {
         return &delivered[0..0];

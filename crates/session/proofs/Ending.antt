@@ -1,36 +1,38 @@
 -- The end of the input: the last line and the text after it.
-use mathlib.Core.Path.{◌≡◌, refl, ◌∙◌, ap}
-use mathlib.Core.Bool.{true}
+use mathlib.Core.Path.{◌≡◌, refl, sym, ◌∙◌, ap}
+use lib.Dec.{eqb}
+use mathlib.Core.Bool.{Bool, true, false, false≢true}
 use mathlib.Core.List.{List, ◌++◌}
-use Prim.Native.Nat.{ℕ, ◌+◌, ◌≤◌, ◌<◌, min}
+use Prim.Native.Nat.{ℕ, ◌+◌, ◌-◌, ◌≤◌, ◌<◌}
 use native.Mathlib.Omega.{arith}
-use borrow.Author.Tests.{le-leb, lt-leb, eq-eqb, ne_eqb}
-use lib.ListN.{length, take, length-take, length-append}
+use borrow.Author.Tests.{le-leb, lt-leb, eqb-true, eq-eqb, ne_eqb}
+use lib.ListN.{length, length-append, length-take, length-drop, take, drop}
+use borrow.Rule.Slice.PartMut.{put_mid}
 use lib.Seq.{length-sets}
 use Rattle.printing.specs.Writing.{fits, has_room, Wrote, Put}
 use Rattle.lines.specs.Statement.{State, line_read, at_end}
-use Rattle.progress.specs.Progressing.{Reads}
-use Rattle.lines.specs.Feeding.{kept_bytes, SoFar, ending, state_at_end, Registers, with_readings}
+use Rattle.progress.specs.Progressing.{state_of, Reads}
+use Rattle.progress.specs.declared.Progress.{Progress}
+use Rattle.lines.specs.Feeding.{SoFar, ending, state_at_end}
 use Rattle.session.specs.declared.Session.{Session}
-use Rattle.session.specs.Sessions.{Lent, so_far_of, lent_at_end, Finishes}
+use Rattle.session.specs.Sessions.{so_far_of, registers_of, registers_at_end, Finishes}
 use Rattle.lines.proofs.Lengths.{text_fits, end_fits}
-use Rattle.session.proofs.Keeping.{least_taken}
-use Rattle.session.proofs.Turns.{lending, same_lent}
-use Rattle.printing.proofs.Writing.{then}
+use Rattle.session.proofs.Turns.{in_front}
+use Rattle.printing.proofs.Writing.{then, wrote_part}
 
 -- Without room nothing is written.
-pub finish_none : (x : Session) (b : Lent) (out : List ℕ) → length out < 2048 → Finishes x b out b 0 out
-finish_none x b out h =
+pub finish_none : (x : Session) (out : List ℕ) → length out < 2048 → Finishes x out x 0 out
+finish_none x out h =
     let no = lt-leb 2048 (length out) h in
-    record { buffers = rw no; bytes = rw no; end = rw no; fits = omega arith }
+    record { line = refl; registers = rw no; bytes = rw no; end = rw no; fits = omega arith }
 
 -- With room a text is written that fits.
-wrote_all : {x : Session} {b c : Lent} {out out_later : List ℕ} {j : ℕ} → 2048 ≤ length out → length (ending (so_far_of x b)) ≤ 2048
-    → c ≡ lent_at_end (so_far_of x b) b → Wrote out 0 (ending (so_far_of x b)) out_later j → Finishes x b out c j out_later
-wrote_all {out = out} h k e w =
+wrote_all : {x y : Session} {out out_later : List ℕ} {j : ℕ} → 2048 ≤ length out → length (ending (so_far_of x)) ≤ 2048 → y.held.items ≡ x.held.items
+    → registers_of y ≡ registers_at_end (so_far_of x) (registers_of x) → Wrote out 0 (ending (so_far_of x)) out_later j → Finishes x out y j out_later
+wrote_all {out = out} h k same e w =
     let yes = le-leb 2048 (length out) h in
     let end = w.end in
-    record { buffers = rw yes e; bytes = rw yes w.bytes; end = rw yes (omega arith); fits = omega arith }
+    record { line = same; registers = rw yes e; bytes = rw yes w.bytes; end = rw yes (omega arith); fits = omega arith }
 
 room_here : (out : List ℕ) (i : ℕ) → i + 1024 ≤ length out → has_room out i ≡ true
 unfolding fits
@@ -46,15 +48,20 @@ module _ (x : SoFar) (none : length x.line ≡ 0) where
   unfolding state_at_end
   whole_state = rw (eq-eqb _ _ none)
 
-pub finish_whole : (x : Session) (b : Lent) (out out_later : List ℕ) (least j : ℕ) → least ≡ min x.held kept_bytes → least ≡ 0 → 2048 ≤ length out
-    → b.registers ≡ with_readings (so_far_of x b).state b.registers → Put out 0 (at_end (so_far_of x b).state) out_later j
-    → Finishes x b out b j out_later
-finish_whole x b out out_later least j e z h same p =
-    let none : length (take x.held b.line) ≡ 0 = omega (arith, length-take x.held b.line) in
-    let text = whole_end (so_far_of x b) none in
+pub finish_whole : (x : Session) (out out_later : List ℕ) (j : ℕ) → length x.held.items ≡ 0 → 2048 ≤ length out
+    → Put out 0 (at_end (state_of x.progress)) out_later j → Finishes x out x j out_later
+finish_whole x out out_later j none h p =
+    let text = whole_end (so_far_of x) none in
     let room = room_here out 0 (omega arith) in
-    wrote_all h (rw text (omega (arith, end_fits (so_far_of x b).state))) (same_lent refl (rw (whole_state (so_far_of x b) none) same))
+    wrote_all h (rw text (omega (arith, end_fits (state_of x.progress)))) refl (rw (whole_state (so_far_of x) none) (in_front x.progress))
     (rw text (record { bytes = rw room at p.bytes; end = rw room at p.end }))
+
+-- A line is empty or has a byte.
+pub empty : {b : Bool} (n : ℕ) → b ≡ eqb n 0 → b ≡ true → n ≡ 0
+empty n e f = eqb-true n 0 (sym e ∙ f)
+
+pub not_empty : {b : Bool} (n : ℕ) → b ≡ eqb n 0 → b ≡ false → n ≡ 0 → ⊥
+not_empty n e f z = false≢true (sym f ∙ e ∙ eq-eqb n 0 z)
 
 -- The bytes that are held are the last line.
 module _ (x : SoFar) (some : length x.line ≡ 0 → ⊥) where
@@ -66,23 +73,37 @@ module _ (x : SoFar) (some : length x.line ≡ 0 → ⊥) where
   unfolding state_at_end
   line_state = rw (ne_eqb _ _ some)
 
-pub finish_line : (x : Session) (b : Lent) (out out_read out_later : List ℕ) (least i j : ℕ) (t : State) (q : Registers) → length b.line ≡ kept_bytes
-    → least ≡ min x.held kept_bytes → (least ≡ 0 → ⊥) → 2048 ≤ length out
-    → Reads out 0 b.registers (so_far_of x b).state (line_read (take least b.line) (so_far_of x b).state) t q out_read i
-    → Put out_read i (at_end t) out_later j → Finishes x b out (lending b.line q) j out_later
-finish_line x b out out_read out_later least i j t q l e n h w p =
-    let line = take x.held b.line in
-    let s = (so_far_of x b).state in
-    let made = rw (least_taken b.line x.held least (rw l e)) at w in
-    let some : length line ≡ 0 → ⊥ = λ z. n (omega (arith, length-take x.held b.line)) in
-    let last = line_end (so_far_of x b) some in
+-- Texts are short.
+pub read_short : (x y : Progress) (l out out_read : List ℕ) (i : ℕ) → 2048 ≤ length out → Reads x l out 0 y out_read i → (i ≤ 1024) × (length out_read ≡ length out)
+read_short x y l out out_read i h made =
     let room = room_here out 0 (omega arith) in
-    let state : t ≡ (line_read line s).state = rw room at made.state in
-    let first : Wrote out 0 (line_read line s).text out_read i = record { bytes = rw room at made.bytes; end = rw room at made.end } in
+    let first : Wrote out 0 (line_read l (state_of x)).text out_read i = record { bytes = rw room at made.text.bytes; end = rw room at made.text.end } in
+    (omega (arith, text_fits l (state_of x), first.end), ap length first.bytes ∙ simp length-sets)
+
+pub put_short : (s : State) (out out_later : List ℕ) (n : ℕ) → Put out 0 (at_end s) out_later n → n ≤ 1024
+put_short s out out_later n p = by (has_room out 0) refl
+  where
+    by : (b : Bool) → has_room out 0 ≡ b → n ≤ 1024
+    by true e = let k = rw e at p.end in omega (arith, end_fits s, k)
+    by false e = let k = rw e at p.end in omega (arith, k)
+
+pub finish_line : (x y : Session) (out out_read part : List ℕ) (i n : ℕ) → (length x.held.items ≡ 0 → ⊥) → 2048 ≤ length out
+    → Reads x.progress x.held.items out 0 y.progress out_read i → y.held.items ≡ x.held.items
+    → Put (take (length out_read - i) (drop i out_read)) 0 (at_end (state_of y.progress)) part n
+    → Finishes x out y (i + n) (put_mid i (length out_read - i) out_read part)
+finish_line x y out out_read part i n some h made same p =
+    let line = x.held.items in
+    let s = state_of x.progress in
+    let last = line_end (so_far_of x) some in
+    let room = room_here out 0 (omega arith) in
+    let state : state_of y.progress ≡ (line_read line s).state = rw room at made.state in
+    let first : Wrote out 0 (line_read line s).text out_read i = record { bytes = rw room at made.text.bytes; end = rw room at made.text.end } in
     let long : length out_read ≡ length out = ap length first.bytes ∙ simp length-sets in
     let short = text_fits line s in
-    let room_later = room_here out_read i (omega (arith, first.end)) in
-    let second : Wrote out_read i (at_end (line_read line s).state) out_later j
+    let left : length (take (length out_read - i) (drop i out_read)) ≡ length out_read - i = rw (length-take, length-drop) (omega arith) in
+    let room_later = room_here (take (length out_read - i) (drop i out_read)) 0 (omega (arith, left, first.end)) in
+    let front : Wrote (take (length out_read - i) (drop i out_read)) 0 (at_end (line_read line s).state) part n
     = rw (← state) (record { bytes = rw room_later at p.bytes; end = rw room_later at p.end }) in
-    wrote_all h (rw (last, length-append) (omega (arith, end_fits (line_read line s).state)))
-    (same_lent refl (rw (line_state (so_far_of x b) some, ← state) made.registers)) (rw last (then first second))
+    let second = wrote_part (omega (arith, first.end)) front in
+    wrote_all h (rw (last, length-append) (omega (arith, end_fits (line_read line s).state))) same
+    (rw (line_state (so_far_of x) some, ← state) made.registers) (rw last (then first second))

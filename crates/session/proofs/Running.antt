@@ -9,28 +9,29 @@ use lib.ListN.{length, take, drop, length-drop}
 use lib.Seq.{take-add, drop-drop}
 use Rattle.text.specs.Text.{place_of}
 use Rattle.lines.specs.Statement.{State, Outcome, counted, line_read}
-use Rattle.progress.specs.Progressing.{line_at, is_run_expected, runs_bytes, runs_state, RunsRead}
+use Rattle.progress.specs.declared.Progress.{Progress}
+use Rattle.progress.specs.Progressing.{state_of, registers_held, line_at, is_run_expected, runs_bytes, runs_state, RunsRead}
 use Rattle.progress.proofs.RunLines.{expected_newline, run_read_lem, run_quiet, bytes_none, state_none, bytes_more, state_more}
 use Rattle.lines.specs.Feeding.{kept_bytes, SoFar, after, printed, taken_of, Registers, with_readings, registers_after}
-use Rattle.session.specs.Sessions.{Lent}
-use Rattle.session.specs.Taking.{TakesLine, Takes, held}
+use Rattle.session.specs.declared.Session.{Session}
+use Rattle.session.specs.Sessions.{so_far_of, registers_of}
+use Rattle.session.specs.Taking.{held, TakesBytes, TakesSome}
 use Rattle.lines.proofs.Streams.{cut_text, cut_state, newline_state, newline_text}
 use Rattle.lines.proofs.Lengths.{line_cut}
 use Rattle.lines.proofs.Buffers.{readings_again, readings_over, cut_registers}
 use Rattle.session.proofs.Taking.{bytes_some, bytes_within, bytes_place, newline_last}
 use Rattle.session.proofs.Taking.{front_text, front_state, line_taken, line_text_lem}
-use Rattle.session.proofs.Turns.{after_newline, printed_newline, line_registers, line_whole, lending, same_lent}
+use Rattle.session.proofs.Turns.{in_front, after_newline, printed_newline, line_registers}
 
 -- One line is some bytes.
-pub takes_line : {before later : SoFar} {b c : Lent} {input out out_later : List ℕ} {i taken j : ℕ}
-    → TakesLine before b input out i taken later c j out_later → Takes before b input out i taken later c j out_later
+pub takes_line : {before later : SoFar} {r q : Registers} {input out out_later : List ℕ} {i taken j : ℕ}
+    → TakesBytes before r input out i taken later q j out_later → TakesSome before r input out i taken later q j out_later
 takes_line {before} {later} {input = input} w =
     record {
-      buffers = w.buffers;
-      whole = λ h. rw (w.stands, w.takes) (line_whole before input (rw w.takes at h));
       some = λ h. rw w.takes (bytes_some input h);
       inside = rw w.takes (bytes_within input);
       stands = w.stands;
+      registers = w.registers;
       text = w.text;
       short = rw w.takes (line_text_lem before input);
       rest = λ room h. rw (w.stands, w.takes) (line_taken room before input h);
@@ -123,42 +124,43 @@ quiet (suc n) l s = by (is_run_expected l s) refl (quiet n (drop (place_of 10 l 
     by true e w = rw (bytes_more n l s e, state_more n l s e) (quiet_more l s _ _ e w)
     by false e w = rw (bytes_none (suc n) l s e, state_none (suc n) l s e) (quiet_none l s)
 
-module _ (before later : State) (r q : Registers) (line input out : List ℕ) (i taken : ℕ) (same : r ≡ with_readings before r)
-    (w : RunsRead before r input taken later q) where
-  as_quiet : Quiet input before taken later
-  as_quiet = rw (w.takes, w.state) (quiet (length input) input before)
+-- Nothing is held.
+none_held : (l : List ℕ) → length l ≡ 0 → l ≡ []
+none_held [] h = refl
+none_held (b ∷ l) h = absurd (omega arith)
+
+module _ (x : Session) (later : Progress) (input out : List ℕ) (i taken : ℕ) (empty : length x.held.items ≡ 0) (w : RunsRead x.progress input taken later) where
+  as_quiet : Quiet input (state_of x.progress) taken (state_of later)
+  as_quiet = rw (w.takes, w.state) (quiet (length input) input (state_of x.progress))
 
   -- Some were taken.
-  pub takes_runs : (taken ≡ 0 → ⊥) → Takes (held [] before) (lending line r) input out i taken (held [] later) (lending line q) i out
+  pub takes_runs : (taken ≡ 0 → ⊥)
+      → TakesSome (so_far_of x) (registers_of x) input out i taken (held x.held.items (state_of later)) (registers_held later) i out
   takes_runs h =
       let k = as_quiet in
       let text = k.text in
-      record {
+      rw (none_held x.held.items empty)
+      (record {
         some = λ _. omega (arith, h);
         inside = k.inside;
         stands = sym k.state;
-        buffers = same_lent (rw k.state) (w.registers ∙ sym (k.registers r same));
-        whole = λ _. refl;
+        registers = w.registers ∙ sym (k.registers (registers_of x) (in_front x.progress));
         text = rw text (record { bytes = refl; end = omega arith });
         short = rw text (omega arith);
         rest = λ room h. rw (text, sub-zero room) (k.rest room h);
-      }
+      })
 
   -- None were, so that the state is the same, and a line was taken.
-  same_state : taken ≡ 0 → later ≡ before
+  same_state : taken ≡ 0 → state_of later ≡ state_of x.progress
   unfolding after
   same_state h =
-      let e : after (held [] before) (take 0 input) ≡ held [] later = rw h at as_quiet.state in
-      sym (ap (λ (x : SoFar). x.state) e)
+      let e : after (held [] (state_of x.progress)) (take 0 input) ≡ held [] (state_of later) = rw h at as_quiet.state in
+      sym (ap (λ (y : SoFar). y.state) e)
 
-  pub takes_none : {next : SoFar} {c : Lent} {out_later : List ℕ} {t j : ℕ} → taken ≡ 0
-      → TakesLine (held [] later) (lending line q) input out i t next c j out_later
-      → Takes (held [] before) (lending line r) input out i t next c j out_later
+  pub takes_none : {next : SoFar} {q : Registers} {out_later : List ℕ} {t j : ℕ} → taken ≡ 0
+      → TakesBytes (held x.held.items (state_of later)) (registers_held later) input out i t next q j out_later
+      → TakesSome (so_far_of x) (registers_of x) input out i t next q j out_later
   takes_none h made =
-      let registers : q ≡ r = w.registers ∙ rw (same_state h) (sym same) in
+      let registers : registers_held later ≡ registers_of x
+      = w.registers ∙ rw (same_state h) (sym (in_front x.progress)) in
       takes_line (rw (same_state h, registers) at made)
-
--- No byte is held.
-pub none_held : {s : State} {later : SoFar} {b c : Lent} {input out out_later : List ℕ} {i t j : ℕ} (line : List ℕ) (n : ℕ) → n ≡ 0
-    → Takes (held [] s) b input out i t later c j out_later → Takes (held (take n line) s) b input out i t later c j out_later
-none_held line n e w = rw e w

@@ -2,32 +2,27 @@
 use mathlib.Core.Path.{◌≡◌, refl, sym, ◌∙◌, ap}
 use mathlib.Core.Bool.{Bool, true, false, cond}
 use mathlib.Core.List.{List, [], ◌∷◌, ◌++◌, append-nil}
-use Prim.Native.Nat.{ℕ, zero, suc, ◌+◌, ◌≤◌, ◌<◌}
+use Prim.Native.Nat.{ℕ, zero, suc, ◌+◌, ◌<◌}
 use native.Mathlib.Omega.{arith}
 use lib.Dec.{eqb}
-use lib.ListN.{length, take, length-take}
-use lib.Seq.{length-sets}
+use lib.ListN.{length, take}
 use Rattle.text.specs.Text.{place_of}
-use Rattle.printing.specs.Writing.{has_room, Wrote}
-use Rattle.lines.specs.Statement.{State, line_read}
-use Rattle.progress.specs.Progressing.{Reads}
-use Rattle.lines.specs.Feeding.{kept_bytes, SoFar, after_byte, byte_text, after, printed, Registers, with_readings, registers_after}
-use Rattle.session.specs.Sessions.{Lent}
-use Rattle.session.specs.Taking.{kept_of, line_bytes, TakesLine}
+use Rattle.printing.specs.Writing.{has_room}
+use Rattle.lines.specs.Statement.{line_read}
+use Rattle.progress.specs.declared.Progress.{Progress}
+use Rattle.progress.specs.Progressing.{state_of, registers_held, Reads}
+use Rattle.lines.specs.Feeding.{SoFar, after_byte, byte_text, after, printed, Registers, with_readings, registers_after}
+use Rattle.session.specs.declared.Session.{Session}
+use Rattle.session.specs.Sessions.{so_far_of, registers_of}
+use Rattle.session.specs.Taking.{kept_of, Keeps, held, TakesBytes, TakesLine}
 use Rattle.text.proofs.Laws.{place_within}
-use Rattle.lines.proofs.Buffers.{cut_registers}
+use Rattle.lines.proofs.Buffers.{readings_same, cut_registers}
 use Rattle.lines.proofs.Streams.{cut_text, cut_state, newline_state, newline_text, other_state}
-use Rattle.session.proofs.Keeping.{kept_front}
 use Rattle.session.proofs.Taking.{bytes_all, bytes_place, newline_last, front_text, front_state}
 
-abbrev holding : List ℕ → State → SoFar
-holding l s = record { line = l; state = s }
-
-abbrev pub lending : List ℕ → Registers → Lent
-lending l r = record { line = l; registers = r }
-
-pub same_lent : {l m : List ℕ} {r q : Registers} → l ≡ m → r ≡ q → lending l r ≡ lending m q
-same_lent e f = λ i. lending (e i) (f i)
+-- The month's readings stand at the front of the registers.
+pub in_front : (x : Progress) → registers_held x ≡ with_readings (state_of x) (registers_held x)
+in_front x = readings_same (state_of x) x.readings.count x.readings.delivered x.readings.received refl refl
 
 -- The newline.
 pub after_newline : (x : SoFar) (front : List ℕ) → after x (front ++ 10 ∷ []) ≡ after_byte (after x front) 10
@@ -60,64 +55,46 @@ line_registers x l r h e =
     rw (newline_last l h, after_newline x front)
     (cut_registers x front (10 ∷ []) r ∙ ap (with_readings (after_byte (after x front) 10).state) (front_registers x l r e))
 
--- What is kept fits into the buffer.
-pub kept_within : (line whole input : List ℕ) (held more e : ℕ) → length whole ≡ kept_bytes → Wrote line 0 (kept_of line held (take e input)) whole more
-    → more ≤ length whole
-kept_within line whole input held more e long k = omega (arith, long, k.end, length-take kept_bytes (take held line ++ take e input))
+-- The bytes before the newline are held behind those that were.
+module _ (x y : Session) (input out : List ℕ) (e i : ℕ) (p : e ≡ place_of 10 input) (k : Keeps x (take e input) y) where
+  state : after (so_far_of x) (take e input) ≡ held (kept_of x.held.items (take e input)) (state_of x.progress)
+  state = rw p (front_state (so_far_of x) input k.room)
 
--- The bytes before the newline stand at the front of a copy of the buffer, behind those that were held.
-module _ (line whole input out : List ℕ) (held more e i : ℕ) (s : State) (r : Registers) (same : r ≡ with_readings s r) (p : e ≡ place_of 10 input)
-    (long : length whole ≡ kept_bytes) (k : Wrote line 0 (kept_of line held (take e input)) whole more) where
-  size : length line ≡ kept_bytes
-  size = sym (length-sets line 0 (kept_of line held (take e input))) ∙ ap length (sym k.bytes) ∙ long
-
-  front : take more whole ≡ kept_of line held (take e input)
-  front = kept_front line whole (kept_of line held (take e input)) more (omega (arith, size, length-take kept_bytes (take held line ++ take e input))) k
-
-  state : after (holding (take held line) s) (take e input) ≡ holding (take more whole) s
-  state = rw (front, p) (front_state (holding (take held line) s) input (omega (arith, size, length-take held line)))
-
-  none : printed (holding (take held line) s) (take e input) ≡ []
-  none = rw p (front_text (holding (take held line) s) input)
+  none : printed (so_far_of x) (take e input) ≡ []
+  none = rw p (front_text (so_far_of x) input)
 
   -- There is no newline: all bytes are held.
-  pub all_held : e ≡ length input
-      → TakesLine (holding (take held line) s) (lending line r) input out i e (holding (take more whole) s) (lending whole r) i out
+  pub all_held : e ≡ length input → TakesLine x input out i e y i out
   all_held q =
-      let x = holding (take held line) s in
-      let registers : registers_after x (take e input) r ≡ r = rw p (front_registers x input r same) in
+      let registers : registers_after (so_far_of x) (take e input) (registers_of x) ≡ registers_of x
+      = rw p (front_registers (so_far_of x) input (registers_of x) (in_front x.progress)) in
       record {
         takes = q ∙ sym (bytes_all input (sym p ∙ q));
-        stands = sym state;
-        buffers = same_lent (rw (state, front) k.bytes) (sym registers);
+        stands = sym (rw (k.line, k.progress) state);
+        registers = sym (rw k.progress registers);
         text = rw none (record { bytes = refl; end = omega arith });
       }
 
-  -- The newline: the line is read.
-  pub line_ended : (out_later : List ℕ) (j : ℕ) (t : State) (q : Registers) → (e ≡ length input → ⊥) → has_room out i ≡ true
-      → Reads out i r s (line_read (take more whole) s) t q out_later j
-      → TakesLine (holding (take held line) s) (lending line r) input out i (e + 1) (holding [] t) (lending line q) j out_later
-  line_ended out_later j t q n room w =
-      let x = holding (take held line) s in
-      let y = holding (take more whole) s in
+  -- The newline: the line is read, and nothing is held any more.
+  pub line_ended : (later : Progress) (line out_later : List ℕ) (j : ℕ) → (e ≡ length input → ⊥)
+      → has_room out i ≡ true → Reads y.progress y.held.items out i later out_later j → line ≡ []
+      → TakesBytes (so_far_of x) (registers_of x) input out i (e + 1) (held line (state_of later)) (registers_held later) j out_later
+  line_ended later line out_later j n room reads empty =
+      let w = rw (k.line, k.progress) at reads in
+      let whole = held (kept_of x.held.items (take e input)) (state_of x.progress) in
       let short : place_of 10 input < length input = omega (arith, place_within 10 input) in
       let all : take (e + 1) input ≡ take e input ++ 10 ∷ [] = rw p (newline_last input short) in
-      let text : printed x (take (e + 1) input) ≡ (line_read (take more whole) s).text
-      = rw (all, printed_newline x (take e input), none, state) (newline_text y 10 refl) in
-      let later : after x (take (e + 1) input) ≡ holding [] t
-      = rw (all, after_newline x (take e input), state, w.state, room) (newline_state y 10 refl) in
-      let registers : registers_after x (take (e + 1) input) r ≡ with_readings (after x (take (e + 1) input)).state r
-      = rw p (line_registers x input r short same) in
+      let text : printed (so_far_of x) (take (e + 1) input) ≡ (line_read whole.line whole.state).text
+      = rw (all, printed_newline (so_far_of x) (take e input), none, state) (newline_text whole 10 refl) in
+      let read : state_of later ≡ (line_read whole.line whole.state).state = rw room at w.state in
+      let after_is : after (so_far_of x) (take (e + 1) input) ≡ held [] (state_of later)
+      = rw (all, after_newline (so_far_of x) (take e input), state) (newline_state whole 10 refl ∙ ap (held []) (sym read)) in
+      let registers : registers_after (so_far_of x) (take (e + 1) input) (registers_of x)
+      ≡ with_readings (after (so_far_of x) (take (e + 1) input)).state (registers_of x)
+      = rw p (line_registers (so_far_of x) input (registers_of x) short (in_front x.progress)) in
       record {
         takes = ap (λ (m : ℕ). m + 1) p ∙ sym (bytes_place input short);
-        stands = sym later;
-        buffers = same_lent (rw later) (w.registers ∙ sym (rw later at registers));
-        text = rw text (record { bytes = rw room at w.bytes; end = rw room at w.end });
+        stands = rw empty (sym after_is);
+        registers = w.registers ∙ sym (rw after_is at registers);
+        text = rw text (record { bytes = rw room at w.text.bytes; end = rw room at w.text.end });
       }
-
--- Where bytes are left, the last line is complete.
-pub line_whole : (x : SoFar) (l : List ℕ) → line_bytes l < length l → (after x (take (line_bytes l) l)).line ≡ []
-line_whole x l h =
-    let some : place_of 10 l ≡ length l → ⊥ = λ q. omega (arith, bytes_all l q) in
-    let short : place_of 10 l < length l = omega (arith, place_within 10 l) in
-    rw (bytes_place l short, newline_last l short, after_newline x (take (place_of 10 l) l), newline_state (after x (take (place_of 10 l) l)) 10 refl)

@@ -39,21 +39,16 @@ struct SixMoves {
 fn move_credit(credit: u64, need: u64) -> Moved
     ensures { Moving credit need result }
 {
-    if credit < need {
-        return Moved {
-            moved: credit,
-            credit: 0,
-            need: need - credit,
-        };
-    }
+    let moved = credit.min(need);
     Moved {
-        moved: need,
-        credit: credit - need,
-        need: 0,
+        moved,
+        credit: credit - moved,
+        need: need - moved,
     }
 }
 
-// Makes the six moves, each from what the moves before it left.
+// Makes the six moves, each from what the moves before it left. They stay six lines, which say in the order of step 4 what moves where; two loops over
+// the periods would skip ten of their sixteen pairs.
 fn six_moves(credit: ByPeriod, need: ByPeriod) -> SixMoves
     ensures { InTurn credit need result }
 {
@@ -74,28 +69,23 @@ fn six_moves(credit: ByPeriod, need: ByPeriod) -> SixMoves
 }
 
 // Credit shared among the need of cheaper periods.
+#[tactic(auto, using(crate::proofs::Moves::made_spent, crate::proofs::Moves::made_met, crate::proofs::Moves::made_is))]
 pub fn share(credit: ByPeriod, need: ByPeriod) -> Shared
     ensures { result ≡ shared_of credit need }
 {
     let moves = six_moves(credit, need);
-    let critical_part = moves.m01.moved + moves.m02.moved;
-    let critical_out = critical_part + moves.m03.moved;
-    let onpeak_out = moves.m12.moved + moves.m13.moved;
-    let offpeak_in = moves.m02.moved + moves.m12.moved;
-    let discount_part = moves.m03.moved + moves.m13.moved;
-    let discount_in = discount_part + moves.m23.moved;
     Shared {
         out: ByPeriod {
-            critical: critical_out,
-            onpeak: onpeak_out,
+            critical: moves.m01.moved + moves.m02.moved + moves.m03.moved,
+            onpeak: moves.m12.moved + moves.m13.moved,
             offpeak: moves.m23.moved,
             discount: 0,
         },
         into: ByPeriod {
             critical: 0,
             onpeak: moves.m01.moved,
-            offpeak: offpeak_in,
-            discount: discount_in,
+            offpeak: moves.m02.moved + moves.m12.moved,
+            discount: moves.m03.moved + moves.m13.moved + moves.m23.moved,
         },
         unspent: ByPeriod {
             critical: moves.m03.credit,

@@ -1,20 +1,19 @@
 -- The lines of a text one after the other, and the status after them.
 use mathlib.Core.Path.{◌≡◌, refl, sym, ◌∙◌, ap}
-use mathlib.Core.Bool.{Bool, true, false, cond, not, ◌&&◌}
+use mathlib.Core.Bool.{Bool, true, false, false≢true, cond, not, ◌&&◌}
 use mathlib.Core.List.{List, [], ◌∷◌, ◌++◌, append_assoc, append-nil}
-use Prim.Native.Nat.{ℕ, zero, suc, ◌+◌, ◌-◌, ◌≤◌, ◌<◌, min}
+use Prim.Native.Nat.{ℕ, zero, suc, ◌+◌, ◌≤◌, ◌<◌, min}
 use native.Mathlib.Nat.{suc-add}
+use native.Mathlib.Numerals.{add-one}
 use native.Mathlib.Omega.{arith}
 use borrow.Author.Tests.{eqb-true, ne_eqb, le-leb, leb-true, leb-false}
 use lib.Dec.{eqb, leb}
-use lib.ListN.{length, take, drop, length-append, length-drop, drop_of_length-le}
-use lib.Seq.{drop-drop}
+use lib.ListN.{length, get_or, take, drop, length-append, drop_of_length-le}
+use lib.Seq.{take_all, take-suc, take-length, drop-length, take-append_seam, drop-append_seam}
 use Rattle.text.specs.Text.{bytes_of, place_of}
-use Rattle.text.proofs.Laws.{place_within}
-use Rattle.text.proofs.Lists.{rest_is}
 use Rattle.lines.specs.Statement.{lines_from, statement_of}
-use Rattle.statement.specs.Status.{begins_as, is_zero, status_after, status_over, status_from, is_end, Ends}
-use Rattle.statement.specs.Giving.{LineAt}
+use Rattle.std.specs.List.{IsFirstMatchOrLen}
+use Rattle.statement.specs.Status.{begins_as, number_place, is_zero, status_after, status_over, status_from, is_end, Ends}
 use Rattle.statement.proofs.Texts.{ends_line}
 
 -- The lines of a text that ends with a newline, and then those of another.
@@ -48,6 +47,10 @@ pub status_none : (s : ℕ) → status_from s [] ≡ s
 unfolding status_from status_over lines_from
 status_none s = refl
 
+pub status_empty : (s : ℕ) (text : List ℕ) → length text ≡ 0 → status_from s text ≡ s
+status_empty s [] e = status_none s
+status_empty s (b ∷ text) e = absurd (omega arith)
+
 -- Each status of printed lines is one of three.
 after_within : (s : ℕ) (line : List ℕ) → s ≤ 2 → status_after s line ≤ 2
 unfolding status_after
@@ -63,15 +66,12 @@ unfolding status_over
 over_within s [] h = h
 over_within s (l ∷ ls) h = over_within (status_after s l) ls (after_within s l h)
 
-ends_known : {r : ℕ} → Ends r → is_end r ≡ true
+-- So what the program ends with is known.
+pub ends_known : {r : ℕ} → Ends r → is_end r ≡ true
 unfolding status_from
 ends_known {r} (Ends.told input e) = rw (le-leb r 2 (omega (arith, e, over_within 0 (lines_from [] (statement_of input)) (omega arith))))
 ends_known {r} (Ends.unread e) = rw e
 ends_known {r} (Ends.unwritten e) = rw e
-
--- So what the program ends with is known.
-pub ended : {r : ℕ} → Ends r → Ends r × (is_end r ≡ true)
-ended e = (e, ends_known e)
 
 -- The first line of a text that has one, and those behind it.
 first_line : (l text : List ℕ) → 0 < length l + length text
@@ -88,45 +88,59 @@ first_line l (b ∷ text) h = by (eqb b 10) (first_line (l ++ b ∷ []) text (om
         rw (suc-add (place_of 10 text) 1)
         (same ∙ ap (λ (x : List ℕ). x ∷ lines_from [] (drop (place_of 10 text + 1) text)) (append_assoc l (b ∷ []) (take (place_of 10 text) text)))
 
--- Where the next line begins there are those that are left.
-next_line : (text : List ℕ) (place p next : ℕ) → next ≡ min (place + p + 1) (length text) → drop next text ≡ drop (p + 1) (drop place text)
-next_line text place p next e = by (leb (place + p + 1) (length text)) refl
-  where
-    by : (t : Bool) → leb (place + p + 1) (length text) ≡ t → drop next text ≡ drop (p + 1) (drop place text)
-    by true f =
-        let within : place + p + 1 ≤ length text = leb-true _ _ f in
-        let same : next ≡ place + (p + 1) = omega arith in
-        rw (drop-drop (p + 1) place text, same)
-    by false f =
-        let past : length text < place + p + 1 = leb-false _ _ f in
-        let none : length text ≤ next = omega arith in
-        let same : length text ≤ place + (p + 1) = omega arith in
-        drop_of_length-le text none ∙ sym (drop-drop (p + 1) place text ∙ drop_of_length-le text same)
+-- A newline behind a line changes nothing that is looked at.
+byte_same : (line : List ℕ) (place b : ℕ) → (b ≡ 0 → ⊥) → (b ≡ 10 → ⊥) → eqb (get_or (line ++ 10 ∷ []) place 0) b ≡ eqb (get_or line place 0) b
+byte_same [] zero b h k = ne_eqb 10 b (λ e. k (sym e)) ∙ sym (ne_eqb 0 b (λ e. h (sym e)))
+byte_same [] (suc place) b h k = refl
+byte_same (a ∷ line) zero b h k = refl
+byte_same (a ∷ line) (suc place) b h k = byte_same line place b h k
 
-pub status_line : {text : List ℕ} {place end next : ℕ} (s : ℕ) → place < length text → LineAt text place end next
-    → status_from s (drop place text) ≡ status_from (status_after s (take (end - place) (drop place text))) (drop next text)
+after_newline : (s : ℕ) (line : List ℕ) → status_after s (line ++ 10 ∷ []) ≡ status_after s line
+unfolding status_after
+after_newline s line =
+    rw (
+      byte_same line 0 108 (λ e. omega arith) (λ e. omega arith),
+      byte_same line 0 111 (λ e. omega arith) (λ e. omega arith),
+      byte_same line (number_place line) 48 (λ e. omega arith) (λ e. omega arith),
+    )
+
+-- The place of the first newline, or the length.
+abbrev IsPlace : List ℕ → ℕ → Type 0
+IsPlace = IsFirstMatchOrLen (λ b. eqb b 10)
+
+place_is : (text : List ℕ) (i : ℕ) → IsPlace text i → place_of 10 text ≡ i
+unfolding place_of
+place_is [] zero h = refl
+place_is [] (suc i) h = absurd (false≢true (sym (h.0 0 10 (omega arith) (omega arith))))
+place_is (b ∷ text) zero h = rw (h.1 (omega arith) 0)
+place_is (b ∷ text) (suc i) h =
+    rw (h.0 0 0 (omega arith) (omega arith))
+    (ap suc (place_is text i (λ k d low high. h.0 (suc k) d (omega arith) (omega arith), λ inside d. h.1 (omega arith) d)))
+
+-- A line and the rest of its text: it is the first one, with its newline where it has one.
+pub status_line : (s : ℕ) (text line rest : List ℕ) (i : ℕ) → text ≡ line ++ rest → length line ≡ min (i + 1) (length text) → 0 < length text
+    → IsPlace text i → status_from s text ≡ status_from (status_after s line) rest
 unfolding status_from status_over
-status_line {text} {place} {end} {next} s h a =
-    let rest = drop place text in
-    let p = place_of 10 rest in
-    let long : end - place ≡ p = omega (arith, a.ends) in
-    let following : drop next text ≡ drop (p + 1) rest = next_line text place p next (omega (arith, a.ends, a.follows)) in
-    rw (long, following, first_line [] rest (omega (arith, length-drop place text)))
+status_line s text line rest i parts long some place =
+    rw (first_line [] text (omega arith), place_is text i place) (by (leb (i + 1) (length text)) refl)
+  where
+    front : take (length line) text ≡ line
+    front = rw (parts, take-append_seam line rest)
 
--- A newline was looked for from a place on.
-module _ (text : List ℕ) (place found : ℕ) (h : place ≤ length text) (e : found ≡ place_of 10 (take (length text - place) (drop place text))) where
-  pub line_within : place + found ≤ length text
-  line_within =
-      omega (arith, e, ap (place_of 10) (rest_is place text), place_within 10 (drop place text), length-drop place text)
+    behind : drop (length line) text ≡ rest
+    behind = rw (parts, drop-append_seam line rest)
 
-  line_is : (next : ℕ) → next ≡ min (place + found + 1) (length text) → LineAt text place (place + found) next
-  line_is next f =
-      record { ends = ap (λ (n : ℕ). place + n) (e ∙ ap (place_of 10) (rest_is place text)); inside = line_within; follows = f }
-
-  -- There is none,
-  pub line_last : place + found ≡ length text → LineAt text place (place + found) (place + found)
-  line_last f = line_is (place + found) (omega arith)
-
-  -- or there is.
-  pub line_more : (place + found ≡ length text → ⊥) → LineAt text place (place + found) (place + found + 1)
-  line_more f = line_is (place + found + 1) (let w = line_within in let g : place + found < length text = omega (arith, f) in omega arith)
+    by : (t : Bool) → leb (i + 1) (length text) ≡ t → status_from (status_after s (take i text)) (drop (i + 1) text) ≡ status_from (status_after s line) rest
+    by true e =
+        let inside : i < length text = omega (arith, leb-true _ _ e) in
+        let all : length line ≡ i + 1 = omega arith in
+        let ends : get_or text i 0 ≡ 10 = eqb-true _ _ (place.1 inside 0) in
+        let same : line ≡ take i text ++ 10 ∷ [] = sym front ∙ rw (all, add-one i, take-suc text i 0 inside, ends) in
+        let next : drop (i + 1) text ≡ rest = rw all at behind in
+        rw (next, same, after_newline s (take i text))
+    by false e =
+        let outside : length text < i + 1 = leb-false _ _ e in
+        let all : length line ≡ length text = omega arith in
+        let same : take i text ≡ line = take_all i text (omega arith) ∙ sym (take-length text) ∙ rw all at front in
+        let next : drop (i + 1) text ≡ rest = drop_of_length-le text (omega arith) ∙ sym (drop-length text) ∙ rw all at behind in
+        rw (next, same)

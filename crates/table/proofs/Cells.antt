@@ -2,8 +2,9 @@
 use mathlib.Core.Path.{◌≡◌, refl, ◌∙◌, sym}
 use mathlib.Core.Bool.{Bool, true, false, false≢true, ◌||◌}
 use mathlib.Core.List.{List, [], ◌∷◌, ◌++◌}
-use Prim.Native.Nat.{ℕ, zero, suc, ◌-◌, ◌≤◌, ◌<◌}
-use native.Mathlib.Numerals.{sub-one}
+use Prim.Native.Nat.{ℕ, zero, suc, ◌+◌, ◌-◌, ◌≤◌, ◌<◌}
+use native.Mathlib.Nat.{zero-add, suc-add}
+use native.Mathlib.Numerals.{add-one}
 use native.Mathlib.Omega.{arith}
 use borrow.Author.Tests.{lt-ltb, le-ltb, ltb-true, ltb-false}
 use lib.Dec.{ltb, lit≤}
@@ -61,19 +62,33 @@ narrow_is : {ns : List ℕ} → wide_to ns 37 ≡ false → Width ns 13
 unfolding width_of
 narrow_is {ns} e = record { is = rw (cells_are ns, e); least = lit≤ tt; most = lit≤ tt }
 
--- The numbers are looked at from the last on.
-pub wide_found : {ns : List ℕ} {r : ℕ} (l : ℕ) → 0 < l → wide_to ns 37 ≡ wide_to ns l → r ≡ cell_at ns (l - 1) → 999999999 < r → Width ns 28
-wide_found zero h e f w = absurd (omega arith)
-wide_found {ns} (suc k) h e f w =
-    wide_is (e ∙ any_yes (up_to (cell_at ns) k) (cell_at ns k) (let g = rw sub-one at f in omega arith))
-
-pub wide_next : (ns : List ℕ) {r : ℕ} (l : ℕ) → 0 < l → wide_to ns 37 ≡ wide_to ns l → r ≡ cell_at ns (l - 1) → r ≤ 999999999
-    → wide_to ns 37 ≡ wide_to ns (l - 1)
-wide_next ns zero h e f w = absurd (omega arith)
-wide_next ns (suc k) h e f w =
-    rw sub-one (e ∙ any_no (up_to (cell_at ns) k) (cell_at ns k) (let g = rw sub-one at f in omega arith))
-
-pub wide_none : {ns : List ℕ} (l : ℕ) → wide_to ns 37 ≡ wide_to ns l → l ≤ 0 → Width ns 13
+-- A number that is too wide stays one where others follow.
+any_more : (ms : List ℕ) (n : ℕ) → any_wide ms ≡ true → any_wide (ms ++ n ∷ []) ≡ true
 unfolding any_wide
-wide_none zero e h = narrow_is e
-wide_none (suc k) e h = absurd (omega arith)
+any_more [] n e = absurd (false≢true e)
+any_more (m ∷ ms) n e = by (ltb 999999999 m) (any_wide ms) e (any_more ms n)
+  where
+    by : (t u : Bool) → (t || u) ≡ true → (u ≡ true → any_wide (ms ++ n ∷ []) ≡ true) → (t || any_wide (ms ++ n ∷ [])) ≡ true
+    by true u f g = refl
+    by false u f g = g f
+
+wide_more : (ns : List ℕ) (k j : ℕ) → wide_to ns k ≡ true → wide_to ns (j + k) ≡ true
+wide_more ns k zero e = rw zero-add e
+wide_more ns k (suc j) e = rw suc-add (any_more (up_to (cell_at ns) (j + k)) (cell_at ns (j + k)) (wide_more ns k j e))
+
+-- The numbers are looked at from the first on.
+pub wide_found : {ns : List ℕ} {r : ℕ} (k : ℕ) → k < 37 → r ≡ cell_at ns k → 999999999 < r → Width ns 28
+wide_found {ns} k h e w =
+    let here : wide_to ns (suc k) ≡ true = any_yes (up_to (cell_at ns) k) (cell_at ns k) (omega arith) in
+    let all : (36 - k) + suc k ≡ 37 = omega arith in
+    wide_is (rw all at (wide_more ns (suc k) (36 - k) here))
+
+pub wide_next : (ns : List ℕ) {r : ℕ} (k : ℕ) → wide_to ns k ≡ false → r ≡ cell_at ns k → r ≤ 999999999 → wide_to ns (k + 1) ≡ false
+wide_next ns k e f w = rw add-one (any_no (up_to (cell_at ns) k) (cell_at ns k) (omega arith) ∙ e)
+
+pub wide_first : (ns : List ℕ) → wide_to ns 0 ≡ false
+unfolding any_wide
+wide_first ns = refl
+
+pub wide_none : {ns : List ℕ} (k : ℕ) → wide_to ns k ≡ false → k ≡ 37 → Width ns 13
+wide_none k e h = narrow_is (rw h at e)

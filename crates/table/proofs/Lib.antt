@@ -1,10 +1,10 @@
 mod Cells
 mod Filling
 pub mod Fitting
+mod Telling
 pub mod Laws
 mod Numbers
 pub mod ReadsBack
-mod Reasons
 mod Showing
 mod Texts
 mod Writing

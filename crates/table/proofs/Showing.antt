@@ -1,24 +1,25 @@
 -- Each table and explanation is a template filled in.
 use mathlib.Core.Path.{◌≡◌, refl, sym, ◌∙◌}
 use mathlib.Core.Bool.{Bool, true, false, cond}
-use mathlib.Core.List.{List, [], ◌∷◌, ◌++◌, append_assoc, append-nil}
-use Prim.Native.Nat.{ℕ, zero, suc, ◌-◌, ◌*◌, ◌/◌, ◌%◌, ◌≤◌, ◌<◌}
+use mathlib.Core.List.{List, [], ◌∷◌, ◌++◌, append_assoc}
+use Prim.Native.Nat.{ℕ, zero, suc, ◌-◌, ◌/◌, ◌%◌, ◌≤◌, ◌<◌}
 use native.Mathlib.Omega.{arith}
 use lib.Dec.{eqb, ltb, lit≤}
-use lib.ListN.{length, get_or, take, drop}
+use lib.ListN.{get_or, take, drop}
 use Rattle.text.specs.Text.{bytes_of}
 use Rattle.printing.specs.Text.{digit_byte, decimal}
 use Rattle.printing.specs.Writing.{Wrote}
-use Rattle.table.specs.Numbers.{opening, month, stop, numbers_of, kind_of, refusal_of}
-use Rattle.table.specs.Reasons.{wrong, to_do, row_count, row_of, wrong_at, explained_at}
+use Rattle.table.specs.Numbers.{opening, month, stop, numbers_of, kind_of}
+use Rattle.table.specs.Reasons.{wrong_at, explained_at}
 use Rattle.table.specs.Table.{joined, month_parts, energy, due, grouped, right_in, shown_numbers, any_wide, width_of, month_table, table_for, table_of}
 use Rattle.table.specs.Explaining.{explanation_for, explanation_of}
-use Rattle.table.specs.Filling.{cell_at, column, plain_value, shown_of, marked_by, filled_by, templates, in_turn, reasons, part_of, text_of, table_text, explanation_text}
+use Rattle.table.specs.declared.Kind.{Kind}
+use Rattle.table.specs.declared.Kind.TheVariants.{Opening, Month, Stop, Other}
+use Rattle.table.specs.Filling.{kind_by, refusal_by, row_by, to_do_at, cell_at, column, plain_value, shown_of, marked_by, filled_by, month_template, table_template, table_first, explanation_template}
 use Rattle.table.proofs.Numbers.{Held, numbers_held}
-use Rattle.table.proofs.Reasons.{row_within}
+use Rattle.table.proofs.Telling.{refusal_same, row_same}
 use Rattle.table.proofs.Cells.{up_to}
 use Rattle.table.proofs.Fitting.{Stands, blanks, cells_stand}
-use Rattle.table.proofs.Texts.{part_one}
 
 -- The table of a month, from the blanks before each heading, its numbers and the digits of its cents.
 abbrev shaped : List ℕ → List ℕ → List (List ℕ) → List (List ℕ) → List ℕ
@@ -60,131 +61,124 @@ same_cents ns = refl
 same_shape : (ns : List ℕ) {b c : List ℕ} {x y z u : List (List ℕ)} → b ≡ c → x ≡ y → z ≡ u → shaped ns b x z ≡ shaped ns c y u
 same_shape ns p q r = rw (p, q, r)
 
-month_wide : (ns reason : List ℕ) → ((k : ℕ) → k < 37 → Stands 28 (cell_at ns k)) → month_table ns 28 ≡ text_of ns 28 4 reason
-unfolding month_table text_of part_of templates filled_by marked_by shown_of plain_value cell_at
-month_wide ns reason f = same_shape ns (sym (blanks 15 1 (lit≤ tt))) (same_cells ns 28 f 37 (lit≤ tt)) (same_cents ns)
+-- What is wrong and what to do, with what stands between them.
+reason_is : (what then rest : List ℕ) → (what ++ bytes_of "; " ++ then) ++ rest ≡ what ++ (bytes_of "; " ++ (then ++ rest))
+reason_is what then rest = append_assoc (what ++ bytes_of "; ") then rest ∙ append_assoc what (bytes_of "; ") (then ++ rest)
 
-month_narrow : (ns reason : List ℕ) → ((k : ℕ) → k < 37 → Stands 13 (cell_at ns k)) → month_table ns 13 ≡ text_of ns 13 4 reason
-unfolding month_table text_of part_of templates filled_by marked_by shown_of plain_value cell_at
-month_narrow ns reason f = same_shape ns (sym (blanks 0 1 (lit≤ tt))) (same_cells ns 13 f 37 (lit≤ tt)) (same_cents ns)
+-- The template of a table, filled in for columns of w bytes.
+abbrev tabled : List ℕ → List ℕ → List ℕ → ℕ → List ℕ
+tabled ns what then w = filled_by (marked_by ns w) what then 4 month_template
 
-month_is : (ns reason : List ℕ) → Held ns → month_table ns (width_of ns) ≡ text_of ns (width_of ns) 4 reason
-unfolding width_of
-month_is ns reason f = by (any_wide (shown_numbers ns)) (cells_stand ns f)
-  where
-    by : (t : Bool) → ((k : ℕ) → k < 37 → Stands (cond t 28 13) (cell_at ns k))
-        → month_table ns (cond t 28 13) ≡ text_of ns (cond t 28 13) 4 reason
-    by true = month_wide ns reason
-    by false = month_narrow ns reason
+module _ (ns what then : List ℕ) where
+  month_wide : ((k : ℕ) → k < 37 → Stands 28 (cell_at ns k)) → month_table ns 28 ≡ tabled ns what then 28
+  unfolding month_table month_template filled_by marked_by shown_of plain_value cell_at
+  month_wide f = same_shape ns (sym (blanks 15 1 (lit≤ tt))) (same_cells ns 28 f 37 (lit≤ tt)) (same_cents ns)
 
--- What is shown, by the tests for the kinds and for a refusal.
-module _ (ns reason : List ℕ) where
-  table_by : Held ns → (s o m z : Bool)
-      → cond s (joined (bytes_of "stopped at line " ∷ decimal (get_or ns 0 0) ∷ bytes_of "\n\n" ∷ []))
+  month_narrow : ((k : ℕ) → k < 37 → Stands 13 (cell_at ns k)) → month_table ns 13 ≡ tabled ns what then 13
+  unfolding month_table month_template filled_by marked_by shown_of plain_value cell_at
+  month_narrow f = same_shape ns (sym (blanks 0 1 (lit≤ tt))) (same_cells ns 13 f 37 (lit≤ tt)) (same_cents ns)
+
+  month_is : Held ns → month_table ns (width_of ns) ≡ tabled ns what then (width_of ns)
+  unfolding width_of
+  month_is f = by (any_wide (shown_numbers ns)) (cells_stand ns f)
+    where
+      by : (t : Bool) → ((k : ℕ) → k < 37 → Stands (cond t 28 13) (cell_at ns k)) → month_table ns (cond t 28 13) ≡ tabled ns what then (cond t 28 13)
+      by true = month_wide
+      by false = month_narrow
+
+-- The kind of a line by the tests for its first byte.
+abbrev kind_for : Bool → Bool → Bool → Kind
+kind_for s o m = cond s Stop (cond o Opening (cond m Month Other))
+
+-- What is shown, by these tests and that for a refusal.
+module _ (ns what then : List ℕ) (n : ℕ) where
+  table_by : Held ns → (s o m z : Bool) → eqb n 0 ≡ z
+      → filled_by (marked_by ns (width_of ns)) what then (table_first (kind_for s o m) n) (table_template (kind_for s o m) n)
+      ≡ cond s (joined (bytes_of "stopped at line " ∷ decimal (get_or ns 0 0) ∷ bytes_of "\n\n" ∷ []))
       (cond o
       (cond z (bytes_of "account opened\n\n")
-      (joined (bytes_of "opening refused, " ∷ decimal (get_or ns 0 0) ∷ bytes_of ": " ∷ reason ∷ bytes_of "\n\n" ∷ [])))
+      (joined (bytes_of "opening refused, " ∷ decimal (get_or ns 0 0) ∷ bytes_of ": " ∷ what ∷ bytes_of "\n\n" ∷ [])))
       (cond m
       (cond z (month_table ns (width_of ns))
       (joined
       (month_parts ns
-      ++ (bytes_of "  refused, " ∷ decimal (get_or ns 2 0) ∷ bytes_of ": " ∷ reason ∷ bytes_of "\n\n" ∷ []))))
+      ++ (bytes_of "  refused, " ∷ decimal (get_or ns 2 0) ∷ bytes_of ": " ∷ what ∷ bytes_of "\n\n" ∷ []))))
       []))
-      ≡ text_of ns (width_of ns) (cond s 2 (cond o (cond z 0 1) (cond m (cond z 4 3) 5))) reason
-  unfolding text_of part_of templates filled_by marked_by plain_value
-  table_by f true o m z = refl
-  table_by f false true m true = refl
-  table_by f false true m false = refl
-  table_by f false false true true = month_is ns reason f
-  table_by f false false true false = refl
-  table_by f false false false z = refl
+  unfolding table_first table_template filled_by marked_by plain_value
+  table_by f true o m z e = refl
+  table_by f false true m true e = rw e
+  table_by f false true m false e = rw e
+  table_by f false false true true e = rw e (sym (month_is ns what then f))
+  table_by f false false true false e = rw e
+  table_by f false false false z e = refl
 
-  explanation_by : (w : ℕ) (s z o : Bool)
-      → cond s
-      (joined (bytes_of "line=" ∷ decimal (get_or ns 0 0) ∷ bytes_of ": " ∷ reason ∷ bytes_of "\n" ∷ []))
+  bill_explained : (w : ℕ)
+      → filled_by (marked_by ns w) what then 0 (bytes_of "bill=#-## answer=#: ~; !\n")
+      ≡ joined
+      (bytes_of "bill=" ∷ month_parts ns
+      ++ (bytes_of " answer=" ∷ decimal (get_or ns 2 0) ∷ bytes_of ": " ∷ (what ++ bytes_of "; " ++ then) ∷ bytes_of "\n" ∷ []))
+  unfolding filled_by marked_by plain_value
+  bill_explained w = rw (reason_is what then (10 ∷ []))
+
+  explanation_by : (w : ℕ) (s o m z : Bool) → eqb n 0 ≡ z
+      → filled_by (marked_by ns w) what then 0 (explanation_template (kind_for s o m) n)
+      ≡ cond s
+      (joined (bytes_of "line=" ∷ decimal (get_or ns 0 0) ∷ bytes_of ": " ∷ (what ++ bytes_of "; " ++ then) ∷ bytes_of "\n" ∷ []))
       (cond z []
       (cond o
-      (joined (bytes_of "open=" ∷ decimal (get_or ns 0 0) ∷ bytes_of ": " ∷ reason ∷ bytes_of "\n" ∷ []))
+      (joined (bytes_of "open=" ∷ decimal (get_or ns 0 0) ∷ bytes_of ": " ∷ (what ++ bytes_of "; " ++ then) ∷ bytes_of "\n" ∷ []))
       (joined
       (bytes_of "bill=" ∷ month_parts ns
-      ++ (bytes_of " answer=" ∷ decimal (get_or ns 2 0) ∷ bytes_of ": " ∷ reason ∷ bytes_of "\n" ∷ [])))))
-      ≡ text_of ns w (cond s 7 (cond z 5 (cond o 6 8))) reason
-  unfolding text_of part_of templates filled_by marked_by plain_value
-  explanation_by w true z o = refl
-  explanation_by w false true o = refl
-  explanation_by w false false true = refl
-  explanation_by w false false false = refl
+      ++ (bytes_of " answer=" ∷ decimal (get_or ns 2 0) ∷ bytes_of ": " ∷ (what ++ bytes_of "; " ++ then) ∷ bytes_of "\n" ∷ [])))))
+  unfolding explanation_template filled_by marked_by plain_value
+  explanation_by w true o m z e = rw (reason_is what then (10 ∷ []))
+  explanation_by w false true m true e = rw e
+  explanation_by w false true m false e = rw (e, reason_is what then (10 ∷ []))
+  explanation_by w false false true true e = rw e
+  explanation_by w false false true false e = rw e (bill_explained w)
+  explanation_by w false false false true e = rw e
+  explanation_by w false false false false e = rw e (bill_explained w)
 
--- The parts of the reasons are what is wrong, and that with what to do.
-next_row : (row : ℕ) → 2 * suc row ≡ suc (suc (2 * row))
-next_row row = omega arith
+-- A template filled in for a line is what is shown of it,
+module _ (line : List ℕ) where
+  abbrev kind : Kind
+  kind = kind_by (kind_of line)
 
-wrong_in : (ws ts : List (List ℕ)) (row : ℕ) → length ws ≡ length ts → get_or (in_turn ws ts) (2 * row) [] ≡ get_or ws row []
-wrong_in [] ts row e = refl
-wrong_in (w ∷ ws) [] row e = absurd (omega arith)
-wrong_in (w ∷ ws) (t ∷ ts) zero e = refl
-wrong_in (w ∷ ws) (t ∷ ts) (suc row) e = rw next_row (wrong_in ws ts row (omega arith))
+  abbrev refusal : ℕ
+  refusal = refusal_by kind (numbers_of line)
 
-both_in : (ws ts : List (List ℕ)) (row : ℕ) → length ws ≡ length ts → row < length ws
-    → part_of (in_turn ws ts) (2 * row) 2 ≡ get_or ws row [] ++ bytes_of "; " ++ get_or ts row []
-unfolding part_of
-both_in [] ts row e h = absurd (omega arith)
-both_in (w ∷ ws) [] row e h = absurd (omega arith)
-both_in (w ∷ ws) (t ∷ ts) zero e h = rw append-nil (sym (append_assoc w (bytes_of "; ") t))
-both_in (w ∷ ws) (t ∷ ts) (suc row) e h = rw next_row (both_in ws ts row (omega arith) (omega arith))
+  abbrev row : ℕ
+  row = row_by kind refusal
 
-pub wrong_is : (row : ℕ) → part_of reasons (2 * row) 1 ≡ wrong_at row
-unfolding reasons wrong_at
-wrong_is row = part_one reasons (2 * row) ∙ wrong_in wrong to_do row refl
+  pub table_is :
+      filled_by (marked_by (numbers_of line) (width_of (numbers_of line))) (wrong_at row) (to_do_at row) (table_first kind refusal)
+      (table_template kind refusal)
+      ≡ table_of line
+  unfolding table_of table_for
+  table_is =
+      let b = kind_of line in
+      let ns = numbers_of line in
+      rw (← (refusal_same b ns), ← (row_same b refusal))
+      (table_by ns (wrong_at row) (to_do_at row) refusal (numbers_held line) (eqb b stop) (eqb b opening) (eqb b month) (eqb refusal 0) refl)
 
-pub explained_is : (row : ℕ) → row < row_count → part_of reasons (2 * row) 2 ≡ explained_at row
-unfolding reasons explained_at wrong_at
-explained_is row h = both_in wrong to_do row refl h
+  pub explanation_is : (w : ℕ)
+      → filled_by (marked_by (numbers_of line) w) (wrong_at row) (to_do_at row) 0 (explanation_template kind refusal) ≡ explanation_of line
+  unfolding explanation_of explanation_for explained_at to_do_at
+  explanation_is w =
+      let b = kind_of line in
+      let ns = numbers_of line in
+      rw (← (refusal_same b ns), ← (row_same b refusal))
+      (explanation_by ns (wrong_at row) (to_do_at row) refusal w (eqb b stop) (eqb b opening) (eqb b month) (eqb refusal 0) refl)
 
-pub table_for_lem : (kind : ℕ) (ns : List ℕ) (n : ℕ) → Held ns → text_of ns (width_of ns) (table_text kind n) (wrong_at (row_of kind n)) ≡ table_for kind ns n
-unfolding table_for table_text
-table_for_lem kind ns n f = sym (table_by ns (wrong_at (row_of kind n)) f (eqb kind stop) (eqb kind opening) (eqb kind month) (eqb n 0))
+  -- and so is what the code writes.
+  module _ {o o1 ns t : List ℕ} {i j n r first : ℕ} {k : Kind} (ek : k ≡ kind) (en : ns ≡ numbers_of line) (er : n ≡ refusal_by k ns)
+      (erow : r ≡ row_by k n) where
+    pub table_shown : {w : ℕ} → w ≡ width_of ns → t ≡ table_template k n → first ≡ table_first k n
+        → Wrote o i (filled_by (marked_by ns w) (wrong_at r) (to_do_at r) first t) o1 j
+        → Wrote o i (table_of line) o1 j
+    table_shown ew et ef p = rw (et, ef, erow, ew, er, en, ek, table_is) at p
 
-pub explanation_for_lem : (kind : ℕ) (ns : List ℕ) (n w : ℕ)
-    → text_of ns w (explanation_text kind n) (explained_at (row_of kind n)) ≡ explanation_for kind ns n
-unfolding explanation_for explanation_text
-explanation_for_lem kind ns n w = sym (explanation_by ns (explained_at (row_of kind n)) w (eqb kind stop) (eqb n 0) (eqb kind opening))
-
--- What the code writes for a line is what is shown of it.
-module _ (line : List ℕ) {ns : List ℕ} {kind n text row : ℕ} (ek : kind ≡ kind_of line) (en : ns ≡ numbers_of line)
-    (er : n ≡ refusal_of kind ns) (e : row ≡ row_of kind n) where
-  pub table_is : {o o1 : List ℕ} {i j w : ℕ} → w ≡ width_of ns → text ≡ table_text kind n
-      → Wrote o i (text_of ns w text (part_of reasons (2 * row) 1)) o1 j
-      → Wrote o i (table_of line) o1 j
-  unfolding table_of
-  table_is ew et p = rw (er, en, ek) at (rw (wrong_is row, ew, et, e, table_for_lem kind ns n (rw en (numbers_held line))) at p)
-
-  pub explanation_is : {o o1 : List ℕ} {i j : ℕ} (w : ℕ) → text ≡ explanation_text kind n
-      → Wrote o i (text_of ns w text (part_of reasons (2 * row) 2)) o1 j
-      → Wrote o i (explanation_of line) o1 j
-  unfolding explanation_of
-  explanation_is w et p =
-      rw (er, en, ek) at (rw (explained_is row (row_within kind n e), et, e, explanation_for_lem kind ns n w) at p)
-
--- There are nine templates.
-table_few : (s o m z : Bool) → cond s 2 (cond o (cond z 0 1) (cond m (cond z 4 3) 5)) < 9
-table_few true o m z = lit≤ tt
-table_few false true m true = lit≤ tt
-table_few false true m false = lit≤ tt
-table_few false false true true = lit≤ tt
-table_few false false true false = lit≤ tt
-table_few false false false z = lit≤ tt
-
-pub table_within : (kind n : ℕ) {text : ℕ} → text ≡ table_text kind n → text < 9
-unfolding table_text
-table_within kind n e = rw e (table_few (eqb kind stop) (eqb kind opening) (eqb kind month) (eqb n 0))
-
-explanation_few : (s z o : Bool) → cond s 7 (cond z 5 (cond o 6 8)) < 9
-explanation_few true z o = lit≤ tt
-explanation_few false true o = lit≤ tt
-explanation_few false false true = lit≤ tt
-explanation_few false false false = lit≤ tt
-
-pub explanation_within : (kind n : ℕ) {text : ℕ} → text ≡ explanation_text kind n → text < 9
-unfolding explanation_text
-explanation_within kind n e = rw e (explanation_few (eqb kind stop) (eqb n 0) (eqb kind opening))
+    pub explanation_shown : (w : ℕ) → t ≡ explanation_template k n → first ≡ 0
+        → Wrote o i (filled_by (marked_by ns w) (wrong_at r) (to_do_at r) first t) o1 j
+        → Wrote o i (explanation_of line) o1 j
+    explanation_shown w et ef p = rw (et, ef, erow, er, en, ek, explanation_is w) at p

@@ -1,25 +1,14 @@
--- Bytes and columns written one after the other.
-use mathlib.Core.Path.{◌≡◌, refl}
-use mathlib.Core.List.{List, ◌∷◌}
-use Prim.Native.Nat.{ℕ, zero, suc, ◌+◌, ◌-◌, ◌<◌}
-use native.Mathlib.Numerals.{add-one, sub-one}
+-- Columns written from the right.
+use mathlib.Core.Path.{◌≡◌, refl, ◌∙◌, ap}
+use mathlib.Core.List.{List, [], ◌∷◌, ◌++◌}
+use Prim.Native.Nat.{ℕ, zero, suc, ◌+◌, ◌-◌, ◌≤◌}
+use native.Mathlib.Numerals.{add-one}
 use native.Mathlib.Omega.{arith}
-use lib.ListN.{length, get_or, drop, set, length-append, drop_of_length-le}
-use lib.Seq.{sets, drop-cons}
+use lib.ListN.{length, set, take, drop, length-append, length-drop}
+use Rattle.std.proofs.lemmas.List.{length-take-le, set_at}
 use Rattle.printing.specs.Writing.{Wrote}
-use Rattle.printing.proofs.Writing.{then, one}
+use Rattle.printing.proofs.Writing.{wrote_front}
 use Rattle.table.specs.Filling.{column_byte, column_rest, column}
-
--- Bytes are written one after the other.
-pub bytes_next : (out : List ℕ) {target : List ℕ} (bytes : List ℕ) (j p : ℕ) → p < length bytes → sets out j (drop p bytes) ≡ target
-    → sets (set out j (get_or bytes p 0)) (j + 1) (drop (p + 1) bytes) ≡ target
-bytes_next out bytes j p h e =
-    let ahead : drop p bytes ≡ get_or bytes p 0 ∷ drop (p + 1) bytes = rw add-one (drop-cons bytes p 0 h) in
-    rw (add-one j) (rw ahead at e)
-
-pub bytes_all : (out out₀ : List ℕ) {i j : ℕ} (bytes : List ℕ) (p : ℕ) → length bytes ≡ p → sets out j (drop p bytes) ≡ sets out₀ i bytes
-    → j ≡ i + p → Wrote out₀ i bytes out j
-bytes_all out out₀ bytes p h e d = record { bytes = rw (drop_of_length-le bytes {i = p} (omega arith)) at e; end = omega arith }
 
 -- A column has its width.
 pub column_length : (w j n : ℕ) → length (column w j n) ≡ w
@@ -27,17 +16,35 @@ unfolding column
 column_length zero j n = refl
 column_length (suc w) j n = let h = column_length w (suc j) (column_rest j n) in rw length-append (omega arith)
 
--- So it ends there.
-pub column_ends : {o o1 : List ℕ} {i k : ℕ} (w j n : ℕ) → Wrote o i (column w j n) o1 k → k ≡ i + w
-column_ends w j n p = let e = p.end in omega (arith, column_length w j n)
-
--- No byte of a column is written, or its last after those before it.
-pub column_none : (o : List ℕ) (i w j n : ℕ) → w ≡ 0 → Wrote o i (column w j n) o i
+-- No byte of a column is written,
+pub column_none : (o : List ℕ) (j n : ℕ) → length o ≡ 0 → o ≡ column (length o) j n
 unfolding column
-column_none o i w j n e = rw e (record { bytes = refl; end = omega arith })
+column_none [] j n e = refl
+column_none (x ∷ o) j n e = absurd (omega arith)
 
-pub column_more : {o o1 : List ℕ} {i k m b : ℕ} (w j n : ℕ) → (w ≡ 0 → ⊥) → m ≡ column_rest j n → b ≡ column_byte j n
-    → Wrote o i (column (w - 1) (j + 1) m) o1 k → Wrote o i (column w j n) (set o1 k b) (k + 1)
+-- or its last after those before it.
+set_last : (part rest : List ℕ) (m b : ℕ) → length part ≡ m → length rest ≡ 1 → set (part ++ rest) m b ≡ part ++ b ∷ []
+set_last part [] m b e h = absurd (omega arith)
+set_last part (y ∷ []) m b e h = set_at part y [] b m e
+set_last part (y ∷ z ∷ rest) m b e h = absurd (omega arith)
+
+pub column_more : {part : List ℕ} {m b : ℕ} (o : List ℕ) (j n : ℕ) → (length o ≡ 0 → ⊥) → m ≡ column_rest j n → b ≡ column_byte j n
+    → part ≡ column (length (take (length o - 1) o)) (j + 1) m
+    → set (part ++ drop (length o - 1) o) (length o - 1) b ≡ column (length o) j n
 unfolding column
-column_more zero j n f em eb p = absurd (f refl)
-column_more (suc w) j n f em eb p = rw (← em, eb) (then (rw (sub-one, add-one) at p) (one _ _ _))
+column_more [] j n f em eb p = absurd (f refl)
+column_more {part} {m} {b} (x ∷ o) j n f em eb p =
+    let width = length o in
+    let less : suc width - 1 ≡ width = omega arith in
+    let front : length (take width (x ∷ o)) ≡ width = length-take-le width (x ∷ o) (omega arith) in
+    let same : part ≡ column width (suc j) (column_rest j n) = rw (less, front, add-one, em) at p in
+    let last : length (drop width (x ∷ o)) ≡ 1 = omega (arith, length-drop width (x ∷ o)) in
+    rw (less, eb) (set_last part (drop width (x ∷ o)) width (column_byte j n) (ap length same ∙ column_length width (suc j) (column_rest j n)) last
+    ∙ ap (λ (l : List ℕ). l ++ column_byte j n ∷ []) same)
+
+-- A column of w bytes at the front.
+pub column_wrote : {o part : List ℕ} (w j n : ℕ) → w ≤ length o → part ≡ column (length (take w o)) j n
+    → Wrote o 0 (column w j n) (part ++ drop w o) w
+column_wrote {o} {part} w j n h p =
+    let same : part ≡ column w j n = rw (length-take-le w o h) at p in
+    rw (column_length w j n) at (wrote_front {o = o} same refl (omega (arith, column_length w j n)))

@@ -1,11 +1,52 @@
 -- What the private functions promise each other. No public contract cites this file.
-use Rattle.std.specs.Prelude.{◌≡◌, false, cond, List, [], ◌∷◌, ◌++◌, ℕ, zero, suc, ◌+◌, ◌-◌, ◌/◌, ◌%◌, ◌≤◌, ◌<◌, eqb, ltb, get_or, take, drop}
+use Rattle.std.specs.Prelude.{◌≡◌, false, cond, List, [], ◌∷◌, ◌++◌, ℕ, zero, suc, ◌+◌, ◌-◌, ◌/◌, ◌%◌, ◌≤◌, eqb, ltb, get_or}
 use Rattle.text.specs.Text.{bytes_of}
 use Rattle.printing.specs.Text.{digit_byte, decimal}
 use Rattle.table.specs.Numbers.{numbers_after, first_of, opening, month, stop}
-use Rattle.table.specs.Reasons.{wrong, to_do, row_count}
-use Rattle.table.specs.Table.{joined, amount, total, width_of}
+use Rattle.table.specs.Reasons.{to_do, opening_row, month_row, stop_row}
+use Rattle.table.specs.Table.{amount, total, width_of}
+use Rattle.table.specs.declared.Kind.{Kind}
+use Rattle.table.specs.declared.Kind.TheVariants.{Opening, Month, Stop, Other}
+use Rattle.table.specs.declared.Row.{Row}
+use Rattle.table.specs.declared.Row.TheVariants.{NeverOpened, Amounts, Nameplates, Business, FirstMonth, OtherMonth, Readings, CriticalDays, LargeReading, LastMonth, FirstLost, Unknown, Stopped}
 use Rattle.table.specs.declared.Shown.{Shown}
+
+-- The kind of a line by its first byte.
+abbrev pub kind_by : ℕ → Kind
+kind_by b = cond (eqb b stop) Stop (cond (eqb b opening) Opening (cond (eqb b month) Month Other))
+
+-- The number of the refusal that a line of a kind tells.
+abbrev pub refusal_by : Kind → List ℕ → ℕ
+refusal_by Opening ns = get_or ns 0 0
+refusal_by Month ns = get_or ns 2 0
+refusal_by Stop ns = 0
+refusal_by Other ns = 0
+
+-- The number of a row of the reasons.
+abbrev pub row_number : Row → ℕ
+row_number NeverOpened = 0
+row_number Amounts = 1
+row_number Nameplates = 2
+row_number Business = 3
+row_number FirstMonth = 4
+row_number OtherMonth = 5
+row_number Readings = 6
+row_number CriticalDays = 7
+row_number LargeReading = 8
+row_number LastMonth = 9
+row_number FirstLost = 10
+row_number Unknown = 11
+row_number Stopped = 12
+
+-- The row of a line's reason by its kind.
+abbrev pub row_by : Kind → ℕ → ℕ
+row_by Stop n = stop_row
+row_by Opening n = opening_row n
+row_by Month n = month_row n
+row_by Other n = month_row n
+
+unfoldable pub to_do_at : ℕ → List ℕ
+to_do_at row = get_or to_do row []
 
 -- The next number of a line, or 0 where there is none, and what is left of the line.
 pub record NextNumber (l : List ℕ) (v : ℕ) (rest : List ℕ) : Type 0 where
@@ -54,67 +95,42 @@ marked_by ns w k =
     let shown = shown_of ns w (k - 7) in
     cond (ltb k 7) (decimal (plain_value ns (k % 4))) (column shown.width shown.place shown.value)
 
--- A template with texts in the places of its marks `#`, counted from k on, and a reason in the place of its `~`.
-unfoldable pub filled_by : (ℕ → List ℕ) → List ℕ → ℕ → List ℕ → List ℕ
-filled_by f reason k [] = []
-filled_by f reason k (b ∷ t) =
-    cond (eqb b 35) (f k ++ filled_by f reason (suc k) t)
-    (cond (eqb b 126) (reason ++ filled_by f reason k t) (b ∷ filled_by f reason k t))
+-- A template with texts in the places of its marks `#`, counted from k on, what is wrong in the place of its `~`, and what to do in that of its `!`.
+unfoldable pub filled_by : (ℕ → List ℕ) → List ℕ → List ℕ → ℕ → List ℕ → List ℕ
+filled_by f what then k [] = []
+filled_by f what then k (b ∷ t) =
+    cond (eqb b 35) (f k ++ filled_by f what then (suc k) t)
+    (cond (eqb b 126) (what ++ filled_by f what then k t)
+    (cond (eqb b 33) (then ++ filled_by f what then k t) (b ∷ filled_by f what then k t)))
 
--- The most bytes that it has, where a mark has at most 28 and a reason 160.
+-- The most bytes that it has, where a mark has at most 28, and what is wrong and what to do 80 each.
 unfoldable pub most_filled : List ℕ → ℕ
 most_filled [] = 0
-most_filled (b ∷ t) = cond (eqb b 35) 28 (cond (eqb b 126) 160 1) + most_filled t
+most_filled (b ∷ t) = cond (eqb b 35) 28 (cond (eqb b 126) 80 (cond (eqb b 33) 80 1)) + most_filled t
 
--- The templates.
-unfoldable pub templates : List (List ℕ)
-templates =
-    bytes_of "account opened\n\n"
-    ∷ bytes_of "opening refused, #: ~\n\n"
-    ∷ bytes_of "stopped at line #\n\n"
-    ∷ bytes_of "#-##  refused, #: ~\n\n"
-    ∷ (bytes_of "#-## #        3 own#        4 out#         5 in#       6 paid#  7 forfeited#     8 billed#       9 left"
+-- The template of a month's table, whose marks are counted from 4.
+unfoldable pub month_template : List ℕ
+month_template =
+    bytes_of "#-## #        3 own#        4 out#         5 in#       6 paid#  7 forfeited#     8 billed#       9 left"
     ++ bytes_of "\ncritical#######\non-peak #######\noff-peak#######\ndiscount#######\nsum     #######"
-    ++ bytes_of "\nenergy  #.##\ndue     #.##\n\n")
-    ∷ []
-    ∷ bytes_of "open=#: ~\n"
-    ∷ bytes_of "line=#: ~\n"
-    ∷ bytes_of "bill=#-## answer=#: ~\n"
-    ∷ []
+    ++ bytes_of "\nenergy  #.##\ndue     #.##\n\n"
 
--- The first mark of each.
-abbrev pub first_marks : List ℕ
-first_marks = 0 ∷ 0 ∷ 0 ∷ 0 ∷ 4 ∷ 0 ∷ 0 ∷ 0 ∷ 0 ∷ []
+-- The template that is filled in for a line of a kind that tells refusal n, and its first mark.
+unfoldable pub table_template : Kind → ℕ → List ℕ
+table_template Stop n = bytes_of "stopped at line #\n\n"
+table_template Opening n = cond (eqb n 0) (bytes_of "account opened\n\n") (bytes_of "opening refused, #: ~\n\n")
+table_template Month n = cond (eqb n 0) month_template (bytes_of "#-##  refused, #: ~\n\n")
+table_template Other n = []
 
--- The reasons: what is wrong and what to do in turn.
-abbrev pub in_turn : List (List ℕ) → List (List ℕ) → List (List ℕ)
-in_turn [] ts = []
-in_turn (w ∷ ws) [] = []
-in_turn (w ∷ ws) (t ∷ ts) = w ∷ (bytes_of "; " ++ t) ∷ in_turn ws ts
+unfoldable pub table_first : Kind → ℕ → ℕ
+table_first Stop n = 0
+table_first Opening n = 0
+table_first Month n = cond (eqb n 0) 4 0
+table_first Other n = 0
 
-unfoldable pub reasons : List (List ℕ)
-reasons = in_turn wrong to_do
-
--- So many parts of a list of texts from the i-th on.
-unfoldable pub part_of : List (List ℕ) → ℕ → ℕ → List ℕ
-part_of texts i n = joined (take n (drop i texts))
-
--- Which template and which parts of the reasons are chosen.
-pub record Chosen (texts rows : List ℕ) (text row parts : ℕ) : Type 0 where
-  pub from_texts : texts ≡ joined templates
-  pub from_reasons : rows ≡ joined reasons
-  pub of_texts : text < 9
-  pub of_rows : row < row_count
-  pub most : parts ≤ 2
-
--- A template filled in with a reason.
-unfoldable pub text_of : List ℕ → ℕ → ℕ → List ℕ → List ℕ
-text_of ns w text reason = filled_by (marked_by ns w) reason (get_or first_marks text 0) (part_of templates text 1)
-
--- Which template is filled in for a line.
-unfoldable pub table_text : ℕ → ℕ → ℕ
-table_text kind n =
-    cond (eqb kind stop) 2 (cond (eqb kind opening) (cond (eqb n 0) 0 1) (cond (eqb kind month) (cond (eqb n 0) 4 3) 5))
-
-unfoldable pub explanation_text : ℕ → ℕ → ℕ
-explanation_text kind n = cond (eqb kind stop) 7 (cond (eqb n 0) 5 (cond (eqb kind opening) 6 8))
+-- Likewise for an explanation, whose first mark is 0.
+unfoldable pub explanation_template : Kind → ℕ → List ℕ
+explanation_template Stop n = bytes_of "line=#: ~; !\n"
+explanation_template Opening n = cond (eqb n 0) [] (bytes_of "open=#: ~; !\n")
+explanation_template Month n = cond (eqb n 0) [] (bytes_of "bill=#-## answer=#: ~; !\n")
+explanation_template Other n = cond (eqb n 0) [] (bytes_of "bill=#-## answer=#: ~; !\n")

@@ -1,14 +1,14 @@
 // What the options of `statement` show of a printed line, with its newline or without: a table, an explanation.
 #![tactic(auto)]
 
-ghost use Rattle.std.specs.Prelude.{◌≡◌, true, ◌+◌, ◌*◌, ◌≤◌, ◌<◌, length, drop, take};
+ghost use Rattle.std.specs.Prelude.{◌≡◌, true, ◌+◌, ◌*◌, ◌≤◌, ◌<◌, length};
 ghost use Rattle.numerals.specs.Numerals.{is_digit};
 ghost use Rattle.printing.specs.Writing.{Wrote, PutIn};
 ghost use Rattle.table.specs.Numbers.{capped, with_digit, numbers_of, kind_of, refusal_of};
-ghost use Rattle.table.specs.Reasons.{row_count, row_of};
+ghost use Rattle.table.specs.Reasons.{wrong_at};
 ghost use Rattle.table.specs.Table.{table_of, table_room};
 ghost use Rattle.table.specs.Explaining.{explanation_of};
-ghost use Rattle.table.specs.Filling.{NextNumber, cell_at, Width, Chosen, column_byte, column_rest, column, shown_of, plain_value, marked_by, filled_by, most_filled, part_of, reasons, text_of, table_text, explanation_text};
+ghost use Rattle.table.specs.Filling.{NextNumber, kind_by, refusal_by, row_number, row_by, to_do_at, cell_at, Width, column_byte, column_rest, column, shown_of, plain_value, marked_by, filled_by, most_filled, table_template, table_first, explanation_template};
 
 // A table or an explanation has at most this many bytes.
 const TABLE_ROOM: usize = 2048;
@@ -26,60 +26,48 @@ const NARROW: usize = 13;
 
 const WIDE: usize = 28;
 
-// The kinds of lines, by their first byte.
-const OPENING: u8 = b'o';
+// The first mark of the table of a month: those before it are the marks of notes.
+const TABLE_MARK: usize = 4;
 
-const MONTH: u8 = b'b';
-
-const STOP: u8 = b'l';
-
-// The rows of reasons for a month's refusal 13, for a number that has none, and for a stop.
-const FIRST_LOST_ROW: usize = 10;
-
-const OTHER_ROW: usize = 11;
-
-const STOP_ROW: usize = 12;
-
-// Where each template begins, and the last ends; and its first mark.
-const TEXT_BEGINS: [usize; 10] = [0, 16, 39, 58, 79, 290, 290, 300, 310, 332];
-
-const FIRST_MARKS: [usize; 9] = [0, 0, 0, 0, 4, 0, 0, 0, 0];
-
-// The templates.
-const OPENED: usize = 0;
-
-const OPENING_REFUSED: usize = 1;
-
-const STOPPED_AT: usize = 2;
-
-const MONTH_REFUSED: usize = 3;
-
-const TABLE: usize = 4;
-
-const NOTHING: usize = 5;
-
-const OPENING_EXPLAINED: usize = 6;
-
-const STOP_EXPLAINED: usize = 7;
-
-const MONTH_EXPLAINED: usize = 8;
-
-// How many parts of a row are shown.
-const WRONG_ALONE: usize = 1;
-
-const WITH_WHAT_TO_DO: usize = 2;
-
-// Where each row's "what is wrong" begins, and where it ends and "what to do" begins.
-const REASON_BEGINS: [usize; 27] = [
-    0, 28, 89, 155, 178, 257, 278, 311, 353, 386, 400, 426, 487, 542, 578, 638, 661, 689, 706, 762,
-    774, 813, 866, 906, 922, 982, 1023,
-];
-
-// The next number of a line, and where the rest of the line begins.
+// What a line tells.
 #[derive(Clone, Copy)]
-struct Found {
-    value: u64,
-    next: usize,
+enum Kind {
+    Opening,
+    Month,
+    Stop,
+    Other,
+}
+
+// The rows of the reasons: of an opening's refusals, of a month's, of one that has none here, and of a stop.
+#[derive(Clone, Copy)]
+enum Row {
+    NeverOpened,
+    Amounts,
+    Nameplates,
+    Business,
+    FirstMonth,
+    OtherMonth,
+    Readings,
+    CriticalDays,
+    LargeReading,
+    LastMonth,
+    FirstLost,
+    Unknown,
+    Stopped,
+}
+
+// A reason: what is wrong, and what to do.
+#[derive(Clone, Copy)]
+struct Reason {
+    wrong: &'static [u8],
+    to_do: &'static [u8],
+}
+
+// A text with marks: `#` for a number, `~` for what is wrong and `!` for what to do. Its `#`s are counted from its first mark on.
+#[derive(Clone, Copy)]
+struct Template {
+    text: &'static [u8],
+    first_mark: usize,
 }
 
 // A number in a column: so many bytes of it, the last of which has so many of the number after it.
@@ -90,129 +78,101 @@ struct Shown {
     place: usize,
 }
 
-fn is_digit(byte: u8) -> bool
-    ensures { result ≡ is_digit byte }
-{
-    if byte < 48 {
-        return false;
-    }
-    byte <= 57
+// What is read of a line: its kind, its refusal, its numbers, and how wide their columns are in a table.
+#[derive(Drop)]
+struct Sheet {
+    kind: Kind,
+    refusal: u64,
+    numbers: [u64; NUMBERS],
+    width: usize,
+    ghost least: { 13 ≤ width },
+    ghost most: { width ≤ 28 },
 }
 
+#[tactic(auto, unfolding(crate::specs::Numbers::with_digit))]
 fn with_digit(value: u64, byte: u8) -> u64
     requires { is_digit byte ≡ true }
     ensures { result ≡ with_digit value byte }
 {
-    let digit = (byte - 48) as u64;
-    if (u64::MAX - digit) / 10 < value {
-        return u64::MAX;
-    }
-    value * 10 + digit
+    value
+        .saturating_mul(10)
+        .saturating_add(u64::from(byte - b'0'))
 }
 
-// The next number of a line from a place on, or 0 where there is none.
-fn next_number(line: &[u8], from: usize) -> Found
-    ensures { NextNumber (drop from line.now) result.value (drop result.next line.now) }
+// The next number of a line, or 0 where there is none, and the rest of the line.
+fn next_number(line: &[u8]) -> (u64, &[u8])
+    ensures { NextNumber line.now result.0 result.1.now }
 {
-    let mut value = 0;
-    let mut inside = false;
-    let mut place = from;
-    while place < line.len() {
-        let byte = line[place];
-        place += 1;
-        if is_digit(byte) {
-            value = with_digit(value, byte);
-            inside = true;
-            continue;
-        }
-        if inside {
-            return Found { value, next: place };
+    let mut value = None;
+    for (place, byte) in line.iter().enumerate() {
+        if byte.is_ascii_digit() {
+            value = Some(with_digit(value.unwrap_or(0), *byte));
+        } else if let Some(number) = value {
+            return (number, &line[place + 1..]);
         }
     }
-    Found { value, next: place }
+    (value.unwrap_or(0), &line[line.len()..])
 }
 
-fn numbers_of(line: &[u8]) -> [u64; 33]
+fn numbers_of(line: &[u8]) -> [u64; NUMBERS]
     ensures { result ≡ numbers_of line.now }
 {
-    let mut numbers = [0u64; NUMBERS];
-    let mut place = 0;
-    let mut count = 0;
-    while count < NUMBERS {
-        let found = next_number(line, place);
-        numbers[count] = found.value;
-        place = found.next;
-        count += 1;
+    let mut numbers = [0; NUMBERS];
+    let mut rest = line;
+    for number in &mut numbers {
+        (*number, rest) = next_number(rest);
     }
     numbers
 }
 
-fn kind_of(line: &[u8]) -> u8
-    ensures { result ≡ kind_of line.now }
+#[tactic(auto, unfolding(crate::specs::Numbers::kind_of))]
+fn kind_of(line: &[u8]) -> Kind
+    ensures { result ≡ kind_by (kind_of line.now) }
 {
-    if line.len() == 0 {
-        return 0;
+    match line.first() {
+        Some(b'l') => Kind::Stop,
+        Some(b'o') => Kind::Opening,
+        Some(b'b') => Kind::Month,
+        _ => Kind::Other,
     }
-    line[0]
 }
 
 // The number of the refusal that a line tells.
-fn refusal_of(kind: u8, numbers: &[u64; 33]) -> u64
-    ensures { result ≡ refusal_of kind numbers.now }
+fn refusal_of(kind: Kind, numbers: &[u64; NUMBERS]) -> u64
+    ensures { result ≡ refusal_by kind numbers.now }
 {
-    if kind == OPENING {
-        return numbers[0];
+    match kind {
+        Kind::Opening => numbers[0],
+        Kind::Month => numbers[2],
+        Kind::Stop | Kind::Other => 0,
     }
-    if kind == MONTH {
-        return numbers[2];
-    }
-    0
-}
-
-// Their sum, or the largest number of 64 bits where it is larger.
-fn sum_of(a: u64, b: u64, c: u64, d: u64) -> u64
-    ensures { result ≡ capped (a + b + c + d) }
-{
-    if u64::MAX - a < b {
-        return u64::MAX;
-    }
-    if u64::MAX - (a + b) < c {
-        return u64::MAX;
-    }
-    if u64::MAX - (a + b + c) < d {
-        return u64::MAX;
-    }
-    a + b + c + d
 }
 
 // The numbers of a table in its order: the amounts by period, their sums, energy and due.
-fn cell_of(numbers: &[u64; 33], k: usize) -> u64
+#[tactic(auto, unfolding(crate::specs::Filling::cell_at))]
+fn cell_of(numbers: &[u64; NUMBERS], k: usize) -> u64
     requires { k < 37 }
     ensures { result ≡ cell_at numbers.now k }
 {
     let first = 3 + 4 * (k % 7);
     if k < 28 {
-        return numbers[first + k / 7];
+        numbers[first + k / 7]
+    } else if k < 35 {
+        numbers[first]
+            .saturating_add(numbers[first + 1])
+            .saturating_add(numbers[first + 2])
+            .saturating_add(numbers[first + 3])
+    } else {
+        numbers[k - 4]
     }
-    if k < 35 {
-        return sum_of(
-            numbers[first],
-            numbers[first + 1],
-            numbers[first + 2],
-            numbers[first + 3],
-        );
-    }
-    numbers[k - 4]
 }
 
 // How wide the columns of a table are.
-fn width_of(numbers: &[u64; 33]) -> usize
+fn width_of(numbers: &[u64; NUMBERS]) -> usize
     ensures { Width numbers.now result }
 {
-    let mut left = CELLS;
-    while 0 < left {
-        left -= 1;
-        if NARROW_MOST < cell_of(numbers, left) {
+    for k in 0..CELLS {
+        if NARROW_MOST < cell_of(numbers, k) {
             return WIDE;
         }
     }
@@ -222,57 +182,50 @@ fn width_of(numbers: &[u64; 33]) -> usize
 fn column_byte(number: u64, place: usize) -> u8
     ensures { result ≡ column_byte place number }
 {
-    let digit = 48 + (number % 10) as u8;
+    let digit = b'0' + (number % 10) as u8;
     if place == 0 {
-        return digit;
+        digit
+    } else if number == 0 {
+        b' '
+    } else if place % 4 == 3 {
+        b','
+    } else {
+        digit
     }
-    if number == 0 {
-        return b' ';
-    }
-    if place % 4 == 3 {
-        return b',';
-    }
-    digit
 }
 
 fn column_rest(number: u64, place: usize) -> u64
     ensures { result ≡ column_rest place number }
 {
-    if place % 4 == 3 {
-        return number;
-    }
-    number / 10
+    if place % 4 == 3 { number } else { number / 10 }
 }
 
-// Writes a number at the right end of so many bytes.
-fn put_column(out: &mut [u8], at: usize, number: u64, width: usize, place: usize) -> usize
-    requires { (at + width ≤ length out.old) × (place + width ≤ 32) }
-    ensures { Wrote out.old at (column width place number) out.new result }
+// Writes a number over all of a part, at its right end.
+fn put_column(out: &mut [u8], number: u64, place: usize)
+    requires { place + length out.old ≤ 32 }
+    ensures { out.new ≡ column (length out.old) place number }
 {
+    let width = out.len();
     if width == 0 {
-        return at;
+        return;
     }
-    let next = put_column(out, at, column_rest(number, place), width - 1, place + 1);
-    out[next] = column_byte(number, place);
-    next + 1
+    put_column(&mut out[..width - 1], column_rest(number, place), place + 1);
+    out[width - 1] = column_byte(number, place);
 }
 
-fn put_bytes(out: &mut [u8], at: usize, bytes: &[u8]) -> usize
-    requires { at + length bytes.now ≤ length out.old }
-    ensures { Wrote out.old at bytes.now out.new result }
+// Copies bytes to the front, and says how many.
+fn put_bytes(out: &mut [u8], bytes: &[u8]) -> usize
+    requires { length bytes.now ≤ length out.old }
+    ensures { Wrote out.old 0 bytes.now out.new result }
 {
-    let mut end = at;
-    let mut place = 0;
-    while place < bytes.len() {
-        out[end] = bytes[place];
-        end += 1;
-        place += 1;
-    }
-    end
+    let count = bytes.len();
+    out[..count].copy_from_slice(bytes);
+    count
 }
 
 // The numbers of a note: year, month in two digits, answer.
-fn plain_value(numbers: &[u64; 33], k: usize) -> u64
+#[tactic(auto, unfolding(crate::specs::Filling::plain_value))]
+fn plain_value(numbers: &[u64; NUMBERS], k: usize) -> u64
     ensures { result ≡ plain_value numbers.now k }
 {
     match k {
@@ -283,256 +236,257 @@ fn plain_value(numbers: &[u64; 33], k: usize) -> u64
     }
 }
 
-// The columns of a table: blanks that widen the seven headings, the numbers, energy and due in dollars and two digits of cents.
-fn shown_in(numbers: &[u64; 33], width: usize, k: usize) -> Shown
-    requires { (13 ≤ width) × (width ≤ 28) }
-    ensures { result ≡ shown_of numbers.now width k }
+// The row of a refusal's reason, or of a stop's.
+#[tactic(auto, unfolding(crate::specs::Reasons::opening_row, crate::specs::Reasons::month_row))]
+fn row_of(kind: Kind, number: u64) -> Row
+    ensures { row_number result ≡ row_by kind number }
 {
-    if k < 7 {
-        let wider = width - NARROW;
-        return Shown {
-            value: 0,
-            width: wider,
-            place: 1,
-        };
+    match kind {
+        Kind::Stop => Row::Stopped,
+        Kind::Opening => match number {
+            4 => Row::Amounts,
+            5 => Row::Nameplates,
+            6 => Row::Business,
+            7 => Row::FirstMonth,
+            _ => Row::Unknown,
+        },
+        Kind::Month | Kind::Other => match number {
+            1 => Row::NeverOpened,
+            7 => Row::OtherMonth,
+            8 => Row::Readings,
+            9 => Row::CriticalDays,
+            10 => Row::LargeReading,
+            11 => Row::LastMonth,
+            13 => Row::FirstLost,
+            _ => Row::Unknown,
+        },
     }
-    if k < 42 {
-        let value = cell_of(numbers, k - 7);
-        return Shown {
-            value,
+}
+
+impl Row {
+    #[tactic(auto, unfolding(crate::specs::Filling::to_do_at, crate::specs::Reasons::wrong_at))]
+    fn reason(self) -> Reason
+        ensures wrong { result.wrong.now ≡ wrong_at (row_number self) }
+        ensures to_do { result.to_do.now ≡ to_do_at (row_number self) }
+    {
+        match self {
+            Row::NeverOpened => Reason {
+                wrong: b"the account was never opened",
+                to_do: b"repair the opening; its number is in the first line printed",
+            },
+            Row::Amounts => Reason {
+                wrong: b"an amount above 1,000,000, or an energy price above the one before",
+                to_do: b"correct lines 7 to 14",
+            },
+            Row::Nameplates => Reason {
+                wrong: b"a nameplate of 0, or a total above line 5, 20 kW (home), or 1,000 kW (business)",
+                to_do: b"correct line 4 or 5",
+            },
+            Row::Business => Reason {
+                wrong: b"a business under the bridge rider",
+                to_do: b"make it a home, or take the banked rider",
+            },
+            Row::FirstMonth => Reason {
+                wrong: b"a first month after December 2099",
+                to_do: b"open earlier",
+            },
+            Row::OtherMonth => Reason {
+                wrong: b"not the month that is next",
+                to_do: b"bill the months in order, each once, from line 1's month on",
+            },
+            Row::Readings => Reason {
+                wrong: b"more or fewer readings than the month has quarter-hours",
+                to_do: b"make the counts of its runs add up",
+            },
+            Row::CriticalDays => Reason {
+                wrong: b"a critical day that the month doesn't have, or more than ten",
+                to_do: b"add up the days again",
+            },
+            Row::LargeReading => Reason {
+                wrong: b"a reading above 1,000,000 Wh",
+                to_do: b"correct the run",
+            },
+            Row::LastMonth => Reason {
+                wrong: b"December 2099 was billed, and there is no month after it",
+                to_do: b"stop there",
+            },
+            Row::FirstLost => Reason {
+                wrong: b"the first reading of a register is lost",
+                to_do: b"give a reading there; only later ones are filled in",
+            },
+            Row::Unknown => Reason {
+                wrong: b"a refusal that this program doesn't know",
+                to_do: b"ask the office",
+            },
+            Row::Stopped => Reason {
+                wrong: b"not a line that can stand there, or the input ends before it",
+                to_do: b"correct the line and run the file again",
+            },
+        }
+    }
+}
+
+impl Template {
+    // A text whose marks are counted from the first on.
+    fn note(text: &'static [u8]) -> Template
+        ensures text { result.text.now ≡ text.now }
+        ensures first { result.first_mark ≡ 0 }
+    {
+        Template {
+            text,
+            first_mark: 0,
+        }
+    }
+}
+
+#[tactic(auto, unfolding(crate::specs::Filling::table_template, crate::specs::Filling::table_first, crate::specs::Filling::month_template))]
+fn table_template(kind: Kind, refusal: u64) -> Template
+    ensures text { result.text.now ≡ table_template kind refusal }
+    ensures first { result.first_mark ≡ table_first kind refusal }
+{
+    match kind {
+        Kind::Stop => Template::note(b"stopped at line #\n\n"),
+        Kind::Opening if refusal == 0 => Template::note(b"account opened\n\n"),
+        Kind::Opening => Template::note(b"opening refused, #: ~\n\n"),
+        Kind::Month if refusal == 0 => Template {
+            text: b"#-## #        3 own#        4 out#         5 in#       6 paid#  7 forfeited#     8 billed#       9 left\n\
+                critical#######\non-peak #######\noff-peak#######\ndiscount#######\nsum     #######\n\
+                energy  #.##\ndue     #.##\n\n",
+            first_mark: TABLE_MARK,
+        },
+        Kind::Month => Template::note(b"#-##  refused, #: ~\n\n"),
+        Kind::Other => Template::note(b""),
+    }
+}
+
+#[tactic(auto, unfolding(crate::specs::Filling::explanation_template))]
+fn explanation_template(kind: Kind, refusal: u64) -> Template
+    ensures text { result.text.now ≡ explanation_template kind refusal }
+    ensures first { result.first_mark ≡ 0 }
+{
+    match kind {
+        Kind::Stop => Template::note(b"line=#: ~; !\n"),
+        _ if refusal == 0 => Template::note(b""),
+        Kind::Opening => Template::note(b"open=#: ~; !\n"),
+        Kind::Month | Kind::Other => Template::note(b"bill=#-## answer=#: ~; !\n"),
+    }
+}
+
+impl Sheet {
+    fn of(line: &[u8]) -> Sheet
+        ensures kind { result.kind ≡ kind_by (kind_of line.now) }
+        ensures numbers { result.numbers ≡ numbers_of line.now }
+        ensures refusal { result.refusal ≡ refusal_by result.kind result.numbers }
+        ensures width { Width result.numbers result.width }
+    {
+        let kind = kind_of(line);
+        let numbers = numbers_of(line);
+        let refusal = refusal_of(kind, &numbers);
+        let width = width_of(&numbers);
+        Sheet {
+            kind,
+            refusal,
+            numbers,
             width,
-            place: 0,
-        };
+        }
     }
-    let cents = cell_of(numbers, 35 + k / 3 % 2);
-    if k % 3 == 0 {
-        let whole = width - 3;
-        return Shown {
-            value: cents / 100,
-            width: whole,
-            place: 0,
-        };
-    }
-    if k % 3 == 1 {
-        return Shown {
-            value: cents / 10,
+
+    // The columns of a table: blanks that widen the seven headings, the numbers, energy and due in dollars and two digits of cents.
+    #[tactic(auto, unfolding(crate::specs::Filling::shown_of))]
+    fn shown(&self, k: usize) -> Shown
+        ensures { result ≡ shown_of self.now.numbers self.now.width k }
+    {
+        if k < 7 {
+            let width = self.width - NARROW;
+            return Shown {
+                value: 0,
+                width,
+                place: 1,
+            };
+        }
+        if k < 42 {
+            let value = cell_of(&self.numbers, k - 7);
+            return Shown {
+                value,
+                width: self.width,
+                place: 0,
+            };
+        }
+        let cents = cell_of(&self.numbers, 35 + k / 3 % 2);
+        if k % 3 == 0 {
+            let width = self.width - 3;
+            return Shown {
+                value: cents / 100,
+                width,
+                place: 0,
+            };
+        }
+        let value = if k % 3 == 1 { cents / 10 } else { cents };
+        Shown {
+            value,
             width: 1,
             place: 0,
-        };
+        }
     }
-    Shown {
-        value: cents,
-        width: 1,
-        place: 0,
+
+    // Writes what stands for a mark of a template. Notes begin with mark 0 and tables with mark 4.
+    fn put_mark(&self, out: &mut [u8], mark: usize) -> usize
+        requires { 28 ≤ length out.old }
+        ensures { Wrote out.old 0 (marked_by self.now.numbers self.now.width mark) out.new result }
+    {
+        if mark < 7 {
+            return printing::put_number(out, plain_value(&self.numbers, mark % 4));
+        }
+        let shown = self.shown(mark - 7);
+        put_column(&mut out[..shown.width], shown.value, shown.place);
+        shown.width
+    }
+
+    // Fills in a template at the front, and says how many bytes that are.
+    fn put(&self, out: &mut [u8], template: Template, row: Row) -> usize
+        requires { (most_filled template.text.now ≤ length out.old) × (template.first_mark ≤ 4) }
+        ensures { Wrote out.old 0 (filled_by (marked_by self.now.numbers self.now.width) (wrong_at (row_number row)) (to_do_at (row_number row)) template.first_mark template.text.now) out.new result }
+    {
+        let reason = row.reason();
+        let mut end = 0;
+        let mut mark = template.first_mark;
+        for byte in template.text {
+            let rest = &mut out[end..];
+            end += match *byte {
+                b'#' => {
+                    let count = self.put_mark(rest, mark);
+                    mark += 1;
+                    count
+                }
+                b'~' => put_bytes(rest, reason.wrong),
+                b'!' => put_bytes(rest, reason.to_do),
+                _ => put_bytes(rest, &[*byte]),
+            };
+        }
+        end
     }
 }
 
-// Writes what stands for a mark of a template. Notes begin with mark 0 and tables with mark 4.
-fn put_mark(out: &mut [u8], at: usize, numbers: &[u64; 33], width: usize, mark: usize) -> usize
-    requires { (at + 28 ≤ length out.old) × (13 ≤ width) × (width ≤ 28) }
-    ensures { Wrote out.old at (marked_by numbers.now width mark) out.new result }
+// Writes the table for a printed line at the front, where there is room, and says how many bytes it has; otherwise 0.
+pub fn put_table(out: &mut [u8], line: &[u8]) -> usize
+    ensures { PutIn table_room out.old 0 (table_of line.now) out.new result }
 {
-    if mark < 7 {
-        return printing::put_number(out, at, plain_value(numbers, mark % 4));
-    }
-    let shown = shown_in(numbers, width, mark - 7);
-    put_column(out, at, shown.value, shown.width, shown.place)
-}
-
-// Writes a template with numbers in the places of its `#`s and a reason in the place of its `~`s.
-fn put_filled(
-    out: &mut [u8],
-    at: usize,
-    template: &[u8],
-    reason: &[u8],
-    numbers: &[u64; 33],
-    width: usize,
-    first: usize,
-) -> usize
-    requires { (at + most_filled template.now ≤ length out.old) × (length reason.now ≤ 160) × (13 ≤ width) × (width ≤ 28) × (first ≤ 4) }
-    ensures { Wrote out.old at (filled_by (marked_by numbers.now width) reason.now first template.now) out.new result }
-{
-    let mut end = at;
-    let mut mark = first;
-    let mut place = 0;
-    while place < template.len() {
-        let byte = template[place];
-        place += 1;
-        if byte == b'#' {
-            end = put_mark(out, end, numbers, width, mark);
-            mark += 1;
-            continue;
-        }
-        if byte == b'~' {
-            end = put_bytes(out, end, reason);
-            continue;
-        }
-        out[end] = byte;
-        end += 1;
-    }
-    end
-}
-
-// The row of a refusal's reason, or of a stop's.
-fn row_of(kind: u8, number: u64) -> usize
-    ensures { result ≡ row_of kind number }
-{
-    if kind == STOP {
-        return STOP_ROW;
-    }
-    if kind == OPENING {
-        if number < 4 {
-            return OTHER_ROW;
-        }
-        if 7 < number {
-            return OTHER_ROW;
-        }
-        return number as usize - 3;
-    }
-    if number == 1 {
+    if out.len() < TABLE_ROOM {
         return 0;
     }
-    if number == 13 {
-        return FIRST_LOST_ROW;
-    }
-    if number < 7 {
-        return OTHER_ROW;
-    }
-    if 11 < number {
-        return OTHER_ROW;
-    }
-    number as usize - 2
+    let sheet = Sheet::of(line);
+    let table = table_template(sheet.kind, sheet.refusal);
+    sheet.put(out, table, row_of(sheet.kind, sheet.refusal))
 }
 
-// Writes a template with its marks counted from its first on, and as many parts of a row's reason: what is wrong, then what to do.
-fn put_chosen(
-    out: &mut [u8],
-    at: usize,
-    texts: &[u8],
-    rows: &[u8],
-    numbers: &[u64; 33],
-    width: usize,
-    text: usize,
-    row: usize,
-    parts: usize,
-) -> usize
-    requires { (Chosen texts.now rows.now text row parts) × (at + 2048 ≤ length out.old) × (13 ≤ width) × (width ≤ 28) }
-    ensures { Wrote out.old at (text_of numbers.now width text (part_of reasons (2 * row) parts)) out.new result }
+// Writes the explanation of a printed line at the front, where there is room, and says how many bytes it has; otherwise 0.
+pub fn put_explanation(out: &mut [u8], line: &[u8]) -> usize
+    ensures { PutIn table_room out.old 0 (explanation_of line.now) out.new result }
 {
-    let begin = TEXT_BEGINS[text];
-    let end = TEXT_BEGINS[text + 1];
-    let from = REASON_BEGINS[2 * row];
-    let to = REASON_BEGINS[2 * row + parts];
-    let first = FIRST_MARKS[text];
-    put_filled(
-        out,
-        at,
-        &texts[begin..end],
-        &rows[from..to],
-        numbers,
-        width,
-        first,
-    )
-}
-
-// The templates and the reasons stand here.
-fn put_text(
-    out: &mut [u8],
-    at: usize,
-    numbers: &[u64; 33],
-    width: usize,
-    text: usize,
-    row: usize,
-    parts: usize,
-) -> usize
-    requires { (at + 2048 ≤ length out.old) × (13 ≤ width) × (width ≤ 28) × (text < 9) × (row < row_count) × (parts ≤ 2) }
-    ensures { Wrote out.old at (text_of numbers.now width text (part_of reasons (2 * row) parts)) out.new result }
-{
-    let texts =
-        b"account opened\n\nopening refused, #: ~\n\nstopped at line #\n\n#-##  refused, #: ~\n\n#-## \
-        #        3 own#        4 out#         5 in#       6 paid#  7 forfeited#     8 billed#       9 left\n\
-        critical#######\non-peak #######\noff-peak#######\ndiscount#######\nsum     #######\n\
-        energy  #.##\ndue     #.##\n\nopen=#: ~\nline=#: ~\nbill=#-## answer=#: ~\n";
-    let rows =
-        b"the account was never opened; repair the opening; its number is in the first line printed\
-        an amount above 1,000,000, or an energy price above the one before; correct lines 7 to 14\
-        a nameplate of 0, or a total above line 5, 20 kW (home), or 1,000 kW (business); correct line 4 or 5\
-        a business under the bridge rider; make it a home, or take the banked rider\
-        a first month after December 2099; open earlier\
-        not the month that is next; bill the months in order, each once, from line 1's month on\
-        more or fewer readings than the month has quarter-hours; make the counts of its runs add up\
-        a critical day that the month doesn't have, or more than ten; add up the days again\
-        a reading above 1,000,000 Wh; correct the run\
-        December 2099 was billed, and there is no month after it; stop there\
-        the first reading of a register is lost; give a reading there; only later ones are filled in\
-        a refusal that this program doesn't know; ask the office\
-        not a line that can stand there, or the input ends before it; correct the line and run the file again";
-    put_chosen(out, at, texts, rows, numbers, width, text, row, parts)
-}
-
-fn table_text(kind: u8, refusal: u64) -> usize
-    ensures { result ≡ table_text kind refusal }
-{
-    if kind == STOP {
-        return STOPPED_AT;
+    if out.len() < TABLE_ROOM {
+        return 0;
     }
-    if kind == OPENING {
-        if refusal == 0 {
-            return OPENED;
-        }
-        return OPENING_REFUSED;
-    }
-    if kind == MONTH {
-        if refusal == 0 {
-            return TABLE;
-        }
-        return MONTH_REFUSED;
-    }
-    NOTHING
-}
-
-fn explanation_text(kind: u8, refusal: u64) -> usize
-    ensures { result ≡ explanation_text kind refusal }
-{
-    if kind == STOP {
-        return STOP_EXPLAINED;
-    }
-    if refusal == 0 {
-        return NOTHING;
-    }
-    if kind == OPENING {
-        return OPENING_EXPLAINED;
-    }
-    MONTH_EXPLAINED
-}
-
-// Writes the table for a printed line, where there is room, and says where it ends.
-pub fn put_table(out: &mut [u8], at: usize, line: &[u8]) -> usize
-    ensures { PutIn table_room out.old at (table_of line.now) out.new result }
-{
-    if !printing::fits(out, at, TABLE_ROOM) {
-        return at;
-    }
-    let numbers = numbers_of(line);
-    let kind = kind_of(line);
-    let refusal = refusal_of(kind, &numbers);
-    let width = width_of(&numbers);
-    let text = table_text(kind, refusal);
-    let row = row_of(kind, refusal);
-    put_text(out, at, &numbers, width, text, row, WRONG_ALONE)
-}
-
-// Writes the explanation of a printed line, where there is room, and says where it ends.
-pub fn put_explanation(out: &mut [u8], at: usize, line: &[u8]) -> usize
-    ensures { PutIn table_room out.old at (explanation_of line.now) out.new result }
-{
-    if !printing::fits(out, at, TABLE_ROOM) {
-        return at;
-    }
-    let numbers = numbers_of(line);
-    let kind = kind_of(line);
-    let refusal = refusal_of(kind, &numbers);
-    let text = explanation_text(kind, refusal);
-    let row = row_of(kind, refusal);
-    put_text(out, at, &numbers, NARROW, text, row, WITH_WHAT_TO_DO)
+    let sheet = Sheet::of(line);
+    let note = explanation_template(sheet.kind, sheet.refusal);
+    sheet.put(out, note, row_of(sheet.kind, sheet.refusal))
 }

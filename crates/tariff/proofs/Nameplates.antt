@@ -1,49 +1,30 @@
--- Nameplates, one place after the other.
-use mathlib.Core.Path.{◌≡◌, refl, sym, ◌∙◌}
+-- The definition's tests and sums of lists of numbers, as std's methods make them.
+use mathlib.Core.Path.{◌≡◌, refl}
 use mathlib.Core.Bool.{Bool, true, false, ◌||◌, or-true}
 use mathlib.Core.List.{List, [], ◌∷◌}
-use Prim.Native.Nat.{ℕ, zero, suc, ◌+◌, ◌-◌, ◌^◌, ◌≤◌, ◌<◌, min}
+use Prim.Native.Nat.{ℕ, ◌+◌, ◌-◌, ◌^◌, ◌≤◌, ◌<◌, min}
 use native.Mathlib.Omega.{arith}
 use borrow.Author.Tests.{lt-ltb, le-ltb, leb-true, leb-false}
 use lib.Dec.{leb, ltb}
-use lib.ListN.{length, get_or, take}
-use lib.Seq.{take_all}
-use Rattle.tariff.specs.Tariff.{most_nameplates, sum_of_all, some_under}
-use Rattle.tariff.proofs.Laws.{or_left, or_right}
+use Rattle.std.specs.List.{list_any, fold}
+use Rattle.tariff.specs.Tariff.{some_over, some_under, sum_of_all}
 
--- The places that hold a nameplate are those that the count says, whatever it is.
-pub held : (n k : ℕ) (xs : List ℕ) → k ≡ min n most_nameplates → length xs ≡ most_nameplates → take k xs ≡ take n xs
-held n k xs e l = by (leb n most_nameplates) refl
-  where
-    by : (t : Bool) → leb n most_nameplates ≡ t → take k xs ≡ take n xs
-    by true h =
-        let within : n ≤ most_nameplates = leb-true _ _ h in
-        let same : k ≡ n = omega arith in
-        rw same
-    by false h =
-        let above : most_nameplates < n = leb-false _ _ h in
-        take_all k xs (omega arith) ∙ sym (take_all n xs (omega arith))
+-- Whether one of some numbers is above a limit, or below a least one.
+pub some_over_is : (limit : ℕ) (xs : List ℕ) → list_any (λ x. ltb limit x) xs ≡ some_over limit xs
+some_over_is limit [] = refl
+some_over_is limit (x ∷ xs) = rw (some_over_is limit xs)
 
--- One nameplate more.
-pub sum_next : (xs : List ℕ) (k : ℕ) → k < length xs → sum_of_all (take (suc k) xs) ≡ sum_of_all (take k xs) + get_or xs k 0
-sum_next [] k h = absurd (omega arith)
-sum_next (x ∷ xs) zero h = omega arith
-sum_next (x ∷ xs) (suc k) h = omega (arith, sum_next xs k (omega arith))
+pub some_under_is : (least : ℕ) (xs : List ℕ) → list_any (λ x. ltb x least) xs ≡ some_under least xs
+some_under_is least [] = refl
+some_under_is least (x ∷ xs) = rw (some_under_is least xs)
 
-pub under_next : (least : ℕ) (xs : List ℕ) (k : ℕ) → k < length xs → some_under least (take k xs) ≡ false → least ≤ get_or xs k 0
-    → some_under least (take (suc k) xs) ≡ false
-under_next least [] k h e p = absurd (omega arith)
-under_next least (x ∷ xs) zero h e p = rw (le-ltb x least p)
-under_next least (x ∷ xs) (suc k) h e p =
-    let here = or_left (ltb x least) (some_under least (take k xs)) e in
-    rw (here, under_next least xs k (omega arith) (or_right (ltb x least) (some_under least (take k xs)) e) p)
+-- A sum that stays at the largest number of 64 bits where it passes it.
+abbrev pub capped : ℕ → ℕ → ℕ
+capped total x = min (total + x) (2 ^ 64 - 1)
 
--- One that is too small is among those up to any later place.
-pub under_at : (least : ℕ) (xs : List ℕ) (k m : ℕ) → k < m → k < length xs → get_or xs k 0 < least → some_under least (take m xs) ≡ true
-under_at least xs k zero h l p = absurd (omega arith)
-under_at least [] k (suc m) h l p = absurd (omega arith)
-under_at least (x ∷ xs) zero (suc m) h l p = rw (lt-ltb x least p)
-under_at least (x ∷ xs) (suc k) (suc m) h l p = rw (under_at least xs k m (omega arith) (omega arith) p) (or-true (ltb x least))
+pub capped_sum : (total : ℕ) (xs : List ℕ) → total < 2 ^ 64 → fold capped total xs ≡ min (total + sum_of_all xs) (2 ^ 64 - 1)
+capped_sum total [] h = omega arith
+capped_sum total (x ∷ xs) h = omega (arith, capped_sum (capped total x) xs (omega arith))
 
 -- A total that passes 64 bits is above every limit that doesn't: where the first limit isn't passed by the total as the code has it, the second
 -- decides.

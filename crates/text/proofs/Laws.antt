@@ -1,32 +1,22 @@
 -- Where a byte first stands, and the first line of a text.
-use mathlib.Core.Path.{◌≡◌, ◌∙◌, ap}
+use mathlib.Core.Path.{◌≡◌, refl, ◌∙◌, ap}
 use mathlib.Core.Bool.{Bool, cond, true, false}
 use mathlib.Core.List.{List, [], ◌∷◌, ◌++◌, append_assoc, append-nil}
 use Prim.Native.Nat.{ℕ, zero, suc, ◌+◌, ◌-◌, ◌≤◌, ◌<◌}
 use native.Mathlib.Nat.{suc-add}
-use native.Mathlib.Numerals.{add-one}
 use native.Mathlib.Omega.{arith}
-use borrow.Author.Tests.{eq-eqb, ne_eqb}
+use borrow.Author.Tests.{ne_eqb}
 use lib.Dec.{eqb}
-use lib.ListN.{length, get_or, take, drop, length-append, length-drop, drop_of_length-le}
-use lib.Seq.{drop-cons}
+use lib.ListN.{length, take, drop, length-append, length-drop}
+use Rattle.std.specs.List.{position_or_len}
+use Rattle.std.proofs.lemmas.List.Recursion.{is_position_or_len}
 use Rattle.text.specs.Text.{place_of, lines_from}
 use Rattle.text.proofs.Lists.{rest_is}
 
--- It stands at the place that is looked at.
-pub place_here : (b i : ℕ) (l : List ℕ) → i < length l → get_or l i 0 ≡ b → place_of b (drop i l) ≡ 0
+-- It is std's first place, or the length.
+pub place_is : (b : ℕ) (l : List ℕ) → place_of b l ≡ position_or_len (λ x. eqb x b) l
 unfolding place_of
-place_here b i l h e = rw (drop-cons l i 0 h) (simp (eq-eqb _ _ e))
-
--- It doesn't, so it is looked for further on.
-pub place_next : (b i : ℕ) (l : List ℕ) → i < length l → (get_or l i 0 ≡ b → ⊥) → place_of b (drop i l) ≡ place_of b (drop (i + 1) l) + 1
-unfolding place_of
-place_next b i l h e = rw (drop-cons l i 0 h, add-one i, add-one (place_of b (drop (suc i) l))) (simp (ne_eqb _ _ e))
-
--- Nothing is left to look at.
-pub place_end : (b i : ℕ) (l : List ℕ) → length l ≤ i → place_of b (drop i l) ≡ 0
-unfolding place_of
-place_end b i l h = rw (drop_of_length-le l h)
+place_is b = is_position_or_len (place_of b) (λ x. eqb x b) refl (λ x xs. let next : 1 + place_of b xs ≡ suc (place_of b xs) = omega arith in rw next)
 
 -- It stands inside, or nowhere.
 pub place_within : (b : ℕ) (l : List ℕ) → place_of b l ≤ length l

@@ -1,19 +1,20 @@
 // Texts, as bytes.
 #![tactic(auto)]
 
-ghost use Rattle.std.specs.Prelude.{◌≡◌};
+ghost use Rattle.std.specs.Prelude.{◌≡◌, ◌<◌, length, IfSome, unwrap_or};
 ghost use Rattle.text.specs.Text.{place_of};
+
+// The place where a byte first stands, if a text has it.
+pub fn find(byte: u8, text: &[u8]) -> Option<usize>
+    ensures place { unwrap_or result (length text.now) ≡ place_of byte text.now }
+    ensures within { IfSome result (λ place. place < length text.now) }
+{
+    text.iter().position(|b| *b == byte)
+}
 
 // The place where a byte first stands, or the length of a text that doesn't have it.
 pub fn place_of(byte: u8, text: &[u8]) -> usize
     ensures { result ≡ place_of byte text.now }
 {
-    let mut place = 0;
-    while place < text.len() {
-        if text[place] == byte {
-            return place;
-        }
-        place += 1;
-    }
-    place
+    find(byte, text).unwrap_or(text.len())
 }

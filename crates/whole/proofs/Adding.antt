@@ -13,7 +13,7 @@ use Rattle.lines.specs.Statement.{last_number}
 use Rattle.lines.specs.Feeding.{ending}
 use Rattle.lines.proofs.Streams.{taken_some}
 use Rattle.session.specs.declared.Session.{Session}
-use Rattle.session.specs.Sessions.{Lent, so_far_of, least_room, Feeds, Finishes}
+use Rattle.session.specs.Sessions.{so_far_of, least_room, Feeds, Finishes}
 use Rattle.whole.specs.Adding.{Adds, FeedsSome}
 use Rattle.text.proofs.Lists.{sets-append, sets-out}
 use Rattle.whole.proofs.Writing.{front}
@@ -45,28 +45,28 @@ chunk_front {chunk} {part} {chunk_later} {written} w h =
     let e : written ≡ length part = omega (arith, w.end) in
     rw (w.bytes, e) (front chunk part (omega arith))
 
-module _ {x : Session} {b : Lent} {chunk chunk_later text text_later : List ℕ} {i j written : ℕ} (room : least_room ≤ length chunk)
+module _ (x : Session) {y : Session} {chunk chunk_later text text_later : List ℕ} {i j written : ℕ} (room : least_room ≤ length chunk)
     (a : Adds text i (take written chunk_later) text_later j) where
   -- A session is fed a piece, and what it wrote is added. With so much room it takes some bytes.
-  pub fed_some : (input : List ℕ) (piece : ℕ) {taken : ℕ} {y : Session} {c : Lent} → piece ≡ min (length input) 65536
-      → Feeds x b (take piece input) chunk taken y c written chunk_later → FeedsSome (so_far_of x b) input text i taken (so_far_of y c) text_later j
+  pub fed_some : (input : List ℕ) (piece : ℕ) {taken : ℕ} → piece ≡ min (length input) 65536
+      → Feeds x (take piece input) chunk taken y written chunk_later → FeedsSome (so_far_of x) input text i taken (so_far_of y) text_later j
   fed_some input piece {taken} e f =
       let long : length (take piece input) ≡ piece = length-take-le piece input (omega arith) in
       let within : taken ≤ piece = omega (arith, f.inside) in
       let takes = rw (le-leb least_room (length chunk) room) at f.takes in
       let bytes = take-take taken piece input within in
       record {
-        some = λ h. omega (arith, takes, taken_some (length chunk) (so_far_of x b) (take piece input) (omega arith) (omega arith));
+        some = λ h. omega (arith, takes, taken_some (length chunk) (so_far_of x) (take piece input) (omega arith) (omega arith));
         inside = omega arith;
         stands = rw bytes at f.stands;
         adds = rw bytes at (rw (chunk_front f.text f.fits) at a);
       }
 
   -- The end of the input likewise.
-  pub finished : {c : Lent} → Finishes x b chunk c written chunk_later → Adds text i (ending (so_far_of x b)) text_later j
+  pub finished : Finishes x chunk y written chunk_later → Adds text i (ending (so_far_of x)) text_later j
   finished f =
       let yes = le-leb least_room (length chunk) room in
-      let bytes : chunk_later ≡ sets chunk 0 (ending (so_far_of x b)) = rw yes at f.bytes in
-      let long : written ≡ length (ending (so_far_of x b)) = rw yes at f.end in
-      let wrote : Wrote chunk 0 (ending (so_far_of x b)) chunk_later written = record { bytes = bytes; end = omega arith } in
+      let bytes : chunk_later ≡ sets chunk 0 (ending (so_far_of x)) = rw yes at f.bytes in
+      let long : written ≡ length (ending (so_far_of x)) = rw yes at f.end in
+      let wrote : Wrote chunk 0 (ending (so_far_of x)) chunk_later written = record { bytes = bytes; end = omega arith } in
       rw (chunk_front wrote f.fits) at a

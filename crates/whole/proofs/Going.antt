@@ -1,18 +1,27 @@
 -- What is still to be added of the text.
 use mathlib.Core.Path.{◌≡◌, refl, sym, ◌∙◌, ap}
-use mathlib.Core.Bool.{true}
-use mathlib.Core.List.{List, ◌++◌, append_assoc}
-use Prim.Native.Nat.{ℕ, ◌+◌, ◌-◌, ◌≤◌, ◌<◌}
+use mathlib.Core.Bool.{Bool, true, false, false≢true}
+use lib.Dec.{eqb}
+use mathlib.Core.List.{List, [], ◌∷◌, ◌++◌, append_assoc}
+use Prim.Native.Nat.{ℕ, zero, suc, ◌≤◌, ◌<◌}
 use native.Mathlib.Omega.{arith}
-use lib.ListN.{length, take, drop, length-drop, take-append-drop, drop_of_length-le}
-use lib.Seq.{sets, length-sets, drop-drop}
-use Rattle.text.proofs.Lists.{rest_is}
+use lib.ListN.{length, take, drop, take-append-drop}
+use lib.Seq.{sets, length-sets}
 use Rattle.lines.specs.Statement.{last_number, has_stopped, statement_of}
 use Rattle.lines.specs.Feeding.{SoFar, nothing_read, after, printed, ending}
 use Rattle.lines.proofs.Streams.{streams, cut_text, cut_state}
 use Rattle.whole.specs.Adding.{Adds, FeedsSome}
 use Rattle.whole.specs.Whole.{length_of}
 use Rattle.whole.proofs.Adding.{then}
+
+-- Nothing is left, or some bytes are.
+none_left : (rest : List ℕ) → length rest ≡ 0 → rest ≡ []
+none_left [] h = refl
+none_left (b ∷ rest) h = absurd (omega arith)
+
+pub some_left : {b : Bool} (n : ℕ) → b ≡ eqb n 0 → b ≡ false → 0 < n
+some_left zero e f = absurd (false≢true (sym f ∙ e))
+some_left (suc n) e f = omega arith
 
 -- What is printed from here on.
 abbrev left : SoFar → List ℕ → List ℕ
@@ -21,54 +30,43 @@ left x bytes = printed x bytes ++ ending (after x bytes)
 left_cut : (x : SoFar) (bytes more : List ℕ) → left x (bytes ++ more) ≡ printed x bytes ++ left (after x bytes) more
 left_cut x bytes more = rw (cut_text x bytes more, cut_state x bytes more, append_assoc)
 
--- So many bytes are taken; where the rest of their text is added, the whole is.
-pub record Going (input text : List ℕ) (taken : ℕ) (current : SoFar) (text_current : List ℕ) (place : ℕ) : Type 0 where
-  pub inside : taken ≤ length input
-  pub rest : (text_later : List ℕ) (j : ℕ) → Adds text_current place (left current (drop taken input)) text_later j
+-- Where what is left of the bytes is added, the whole statement is.
+pub record Going (input text rest : List ℕ) (current : SoFar) (text_current : List ℕ) (place : ℕ) : Type 0 where
+  pub whole : (text_later : List ℕ) (j : ℕ) → Adds text_current place (left current rest) text_later j
       → Adds text 0 (statement_of input) text_later j
 
-pub going_start : (input text : List ℕ) (x : SoFar) → x ≡ nothing_read → Going input text 0 x text 0
+pub going_start : (input text : List ℕ) (x : SoFar) → x ≡ nothing_read → Going input text input x text 0
 going_start input text x e =
     let all : left x input ≡ statement_of input = ap (λ (y : SoFar). left y input) e ∙ streams.whole input in
-    record { inside = omega arith; rest = λ text_later j a. rw all at a }
+    record { whole = λ text_later j a. rw all at a }
 
 -- A text keeps its length.
-pub same_long : {input text text_current : List ℕ} {taken place : ℕ} {current : SoFar} → Going input text taken current text_current place
+pub same_long : {input text rest text_current : List ℕ} {place : ℕ} {current : SoFar} → Going input text rest current text_current place
     → length text_current ≡ length text
-same_long {input} {text} {text_current} {taken} {place} {current} g =
-    let e = (g.rest (sets text_current place (left current (drop taken input))) _ (record { bytes = refl; end = refl })).bytes in
-    sym (length-sets text_current place (left current (drop taken input))) ∙ ap length e ∙ length-sets text 0 (statement_of input)
+same_long {input} {text} {rest} {text_current} {place} {current} g =
+    let e = (g.whole (sets text_current place (left current rest)) _ (record { bytes = refl; end = refl })).bytes in
+    sym (length-sets text_current place (left current rest)) ∙ ap length e ∙ length-sets text 0 (statement_of input)
 
 -- Some bytes more are taken, and what they print is added.
-pub going_more : {input text text_current text_later : List ℕ} {taken place t j : ℕ} {current later : SoFar} → length text ≤ last_number
-    → Going input text taken current text_current place → taken < length input
-    → FeedsSome current (take (length input - taken) (drop taken input)) text_current place t later text_later j
-    → (taken < taken + t) × Going input text (taken + t) later text_later j
-going_more {input} {taken = taken} {t = t} {current = current} {later = later} h g inside made =
-    let bytes = drop taken input in
-    let m = rw (rest_is taken input) at made in
-    let long : length bytes ≡ length input - taken = length-drop taken input in
-    let both : left current bytes ≡ printed current (take t bytes) ++ left later (drop (taken + t) input)
-    = ap (λ (l : List ℕ). left current l) (sym (take-append-drop t bytes)) ∙ left_cut current (take t bytes) (drop t bytes)
-    ∙ rw (m.stands, drop-drop t taken input) in (
-      omega (arith, m.some (omega arith)),
-      record {
-        inside = omega (arith, m.inside);
-        rest = λ end k a. g.rest end k (rw both (then (omega (arith, same_long g)) m.adds a));
-      },
-    )
+pub going_more : {input text rest text_current text_later : List ℕ} {place t j : ℕ} {current later : SoFar} → length text ≤ last_number
+    → Going input text rest current text_current place → FeedsSome current rest text_current place t later text_later j
+    → Going input text (drop t rest) later text_later j
+going_more {rest = rest} {t = t} {current = current} {later = later} h g made =
+    let both : left current rest ≡ printed current (take t rest) ++ left later (drop t rest)
+    = ap (λ (l : List ℕ). left current l) (sym (take-append-drop t rest)) ∙ left_cut current (take t rest) (drop t rest) ∙ rw made.stands in
+    record { whole = λ end k a. g.whole end k (rw both (then (omega (arith, same_long g)) made.adds a)) }
 
-module _ {input text text_current : List ℕ} {taken place : ℕ} {current : SoFar} (g : Going input text taken current text_current place) where
+module _ {input text rest text_current : List ℕ} {place : ℕ} {current : SoFar} (g : Going input text rest current text_current place) where
   -- After a fault nothing is left.
   pub going_stopped : has_stopped current.state ≡ true → place ≤ last_number → Adds text 0 (statement_of input) text_current place
   going_stopped h small =
-      g.rest text_current place (rw (streams.quiet current (drop taken input) h) (record { bytes = refl; end = omega arith }))
+      g.whole text_current place (rw (streams.quiet current rest h) (record { bytes = refl; end = omega arith }))
 
   -- At the end of the input its ending is.
-  pub going_all : {text_later : List ℕ} {j : ℕ} → length input ≤ taken → Adds text_current place (ending current) text_later j
+  pub going_all : {text_later : List ℕ} {j : ℕ} → length rest ≡ 0 → Adds text_current place (ending current) text_later j
       → Adds text 0 (statement_of input) text_later j
   unfolding printed after
-  going_all h a = g.rest _ _ (rw (drop_of_length-le input h) a)
+  going_all h a = g.whole _ _ (rw (none_left rest h) a)
 
 -- All was added from the front: the place after it is its length.
 pub whole_long : {text part text_later : List ℕ} {j : ℕ} → Adds text 0 part text_later j → j ≡ length_of part

@@ -4,4 +4,4 @@ use Rattle.calendar.proofs.Laws.{clock_of-is, day_length-is}
 use Rattle.calendar.proofs.day_length.Goals as goal
 
 pub returns : goal.returns
-returns c = c.length_by.ensures ∙ day_length-is _ _ (clock_of-is _ _ _ _ c.change_of.ensures c.clock_on.ensures)
+returns c = c.length_by.ensures ∙ day_length-is _ _ (clock_of-is _ _ _ _ c.change_of.ensures.day c.clock_on.ensures)

@@ -1,8 +1,8 @@
 -- `calendar::first_weekday` is the closed form of `Weekday`, which follows the definition month by month.
-use mathlib.Core.Path.{sym}
+use native.Mathlib.Omega.{arith}
 use Rattle.calendar.proofs.Weekday.{count, leap_days, closed}
 use Rattle.calendar.proofs.first_weekday.Goals as goal
 
 pub returns : goal.returns
 unfolding count leap_days
-returns c = sym (closed _)
+returns c = omega (arith, closed c.args.month)

@@ -4,10 +4,6 @@ use Rattle.calendar.specs.Calendar.{weekday_of}
 use Rattle.calendar.proofs.Lengths.{first_weekday-lt}
 use Rattle.calendar.proofs.weekday_of.Goals as goal
 
-pub returns-then-day-eq0 : goal.returns-then-day-eq0
-unfolding weekday_of
-returns-then-day-eq0 c = omega (arith, first_weekday-lt c.args.month)
-
 pub overflow_add-result : goal.overflow_add-result
 overflow_add-result c = omega (arith, first_weekday-lt c.args.month)
 

@@ -1,11 +1,7 @@
-use mathlib.Core.Path.{◌≡◌}
-use Prim.Native.Nat.{◌*◌, ◌≤◌, ◌-◌}
-use lib.ListN.{length, take}
-use Rattle.hours.specs.Packing.{unpacked}
+use Rattle.std.proofs.Common.{◌≡◌, ℕ, ◌/◌, ◌%◌, ◌<◌, get_or}
+use Rattle.hours.specs.Packing.{byte_at, entry_of}
 use Rattle.hours.proofs.unpack.Given as goal
 
-abbrev pub invariant-loop-b : goal.invariant-loop-b
-invariant-loop-b l = (l.b ≤ 96) × (length l.entries ≡ 384) × (take (4 * l.b) l.entries ≡ unpacked l.words l.b)
-
-abbrev pub decreases-loop-b : goal.decreases-loop-b
-decreases-loop-b l = 96 - l.b
+-- The entries before the place are those of their bytes.
+abbrev pub invariant-loop-place : goal.invariant-loop-place
+invariant-loop-place l = (k : ℕ) → k < l.place → get_or l.entry-items k 0 ≡ entry_of (byte_at l.words (k / 4)) (k % 4)

@@ -3,9 +3,5 @@ use Prim.Native.Nat.{◌+◌, ◌-◌, ◌≤◌}
 use Rattle.hours.specs.Schedules.{word_from}
 use Rattle.hours.proofs.word_from.Given as goal
 
--- The word has the entries behind those that are left.
-abbrev pub invariant-loop-left : goal.invariant-loop-left
-invariant-loop-left l = (l.left ≤ 32) × (l.word ≡ word_from l.schedule (l.first + l.left) (32 - l.left))
-
-abbrev pub decreases-loop-left : goal.decreases-loop-left
-decreases-loop-left l = l.left
+abbrev pub invariant-loop-place : goal.invariant-loop-place
+invariant-loop-place l = (l.first ≤ l.place) × (l.word ≡ word_from l.schedule l.place (l.first + 32 - l.place))

@@ -1,14 +1,15 @@
--- `printing::put_number`: where 20 bytes are left, so many digits have room.
-use Rattle.printing.proofs.Writing.{put_none, put_wrote, room_for}
-use mathlib.Core.Path.{ap}
-use mathlib.Core.Bool.{not}
+-- `printing::put_number` copies what `itoa` writes: the digits of the definition.
+use mathlib.Core.Path.{◌∙◌}
+use native.Mathlib.Omega.{arith}
+use Rattle.printing.proofs.Writing.{std_digits, digits_length, wrote_front, put_short, put_long}
 use Rattle.printing.proofs.put_number.Goals as goal
 
-pub returns-then-not-fits : goal.returns-then-not-fits
-returns-then-not-fits c = put_none c.fits.ensures (ap not c.if-not-fits.true)
-
-pub put_digits-requires : goal.put_digits-requires
-put_digits-requires c = room_for _ _ _ c.fits.ensures (ap not c.if-not-fits.false)
+pub returns-then-out-lt-MOST_DIGITS : goal.returns-then-out-lt-MOST_DIGITS
+returns-then-out-lt-MOST_DIGITS c = put_short 20 c.args.out.now c.if-out-lt-MOST_DIGITS.true
 
 pub returns : goal.returns
-returns c = put_wrote c.fits.ensures (ap not c.if-not-fits.false) c.put_digits.ensures
+returns c = let number = c.args.number in
+    put_long 20 c.args.out.now c.if-out-lt-MOST_DIGITS.false
+    (wrote_front c.copy_from_slice.ensures.after
+    (c.as_bytes-digits.ensures.value ∙ c.format.ensures.text ∙ std_digits number (omega arith))
+    (omega (arith, digits_length 20 number)))

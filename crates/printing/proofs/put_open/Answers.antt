@@ -8,4 +8,4 @@ put_text-requires c = open_most
 
 pub returns : goal.returns
 unfolding open_text
-returns c = c.put_text.ensures
+returns c = rw c.from.ensures at c.put_text.ensures

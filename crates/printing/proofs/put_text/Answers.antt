@@ -1,63 +1,45 @@
 -- `printing::put_text`: what is left of the template is still to be filled in, and has room.
-use native.Mathlib.Omega.{arith}
-use Rattle.printing.proofs.Writing.{put_none, put_wrote, room_for}
-use Rattle.printing.proofs.Filling.{starts, ends, room_byte, room_mark, then_byte, then_none, then_number}
 use mathlib.Core.Path.{ap}
 use mathlib.Core.Bool.{not}
+use native.Mathlib.Omega.{arith}
+use Rattle.std.specs.Slice.Iter.{iter_rest}
+use Rattle.printing.proofs.Writing.{digits_length, put_none, put_wrote, put_there, room_for, rest_room}
+use Rattle.printing.proofs.Filling.{starts, ends, room_byte, room_mark, then_byte, then_none, then_number}
 use Rattle.printing.proofs.put_text.Goals as goal
+use Rattle.printing.proofs.put_text.Goals.{then-byte-ne35, else-byte-ne35+in-Some, else-byte-ne35+in_default}
 
 pub returns-then-not-has_room : goal.returns-then-not-has_room
 returns-then-not-has_room c = put_none c.has_room.ensures (ap not c.if-not-has_room.true)
 
-pub loop-place-init : goal.loop-place-init
-loop-place-init c = starts _ _ _ _ (omega (arith, room_for _ _ _ c.has_room.ensures (ap not c.if-not-has_room.false), c.requires))
-
-pub bounds-template-place : goal.bounds-template-place
-bounds-template-place c = omega arith
-
-pub overflow_add-place : goal.overflow_add-place
-overflow_add-place c = omega arith
+pub loop-byte-init : goal.loop-byte-init
+loop-byte-init c = starts _ _ _ (omega (arith, room_for _ _ _ c.has_room.ensures (ap not c.if-not-has_room.false), c.requires))
 
 pub bounds-out-end : goal.bounds-out-end
-bounds-out-end c = omega (arith, room_byte c.loop-place.invariant c.loop-place-test.true c.if-byte-ne35.true)
+bounds-out-end c = omega (arith, room_byte c.loop-byte.invariant c.loop-byte-test.true c.if-byte-ne35.true)
 
-pub overflow_add-end : goal.overflow_add-end
-overflow_add-end c = let inv = c.loop-place.invariant in
-    omega (arith, room_byte inv c.loop-place-test.true c.if-byte-ne35.true, c.well_formed.0.0, inv.kept)
+pub overflow_add-end-in-Some : goal.overflow_add-end-in-Some
+overflow_add-end-in-Some c = let inv = c.loop-byte.invariant in
+    let loop = c.loop-byte in
+    let room = room_mark inv c.loop-byte-test.true c.if-byte-ne35.false in
+    let put = put_there (omega (arith, rest_room 20 loop.out loop.end (omega arith))) c.put_number-end.ensures in
+    let most = digits_length 20 c.in-Some.number.now in
+    omega (arith, put.end, c.well_formed.0.0, inv.kept)
 
-pub loop-place-smaller-then-byte-ne35 : goal.loop-place-smaller-then-byte-ne35
-loop-place-smaller-then-byte-ne35 c = omega arith
-
-pub loop-place-preserved-then-byte-ne35 : goal.loop-place-preserved-then-byte-ne35
-loop-place-preserved-then-byte-ne35 c = then_byte c.loop-place.invariant c.loop-place-test.true c.if-byte-ne35.true
-
-pub loop-place-smaller-then-numbers-next : goal.loop-place-smaller-then-numbers-next
-loop-place-smaller-then-numbers-next c = omega arith
-
-pub loop-place-preserved-then-numbers-next : goal.loop-place-preserved-then-numbers-next
-loop-place-preserved-then-numbers-next c = then_none c.loop-place.invariant c.loop-place-test.true c.if-byte-ne35.false c.if-numbers-next.true
-
-pub offset_bounds-numbers-next : goal.offset_bounds-numbers-next
-offset_bounds-numbers-next c = omega arith
-
-pub bounds-numbers-next : goal.bounds-numbers-next
-bounds-numbers-next c = omega arith
-
-pub put_digits-end-requires : goal.put_digits-end-requires
-put_digits-end-requires c = omega (arith, room_mark c.loop-place.invariant c.loop-place-test.true c.if-byte-ne35.false)
-
-pub overflow_add-next : goal.overflow_add-next
-overflow_add-next c = omega arith
-
-pub loop-place-smaller : goal.loop-place-smaller
-loop-place-smaller c = omega arith
-
-pub loop-place-preserved : goal.loop-place-preserved
-loop-place-preserved c = then_number c.loop-place.invariant c.loop-place-test.true c.if-byte-ne35.false c.if-numbers-next.false c.put_digits-end.ensures
-    c.put_digits-end.auto.out
-
-pub shape_of-out : goal.shape_of-out
-shape_of-out c = c.loop-place.invariant.kept
+pub loop-byte-preserved : goal.loop-byte-preserved
+loop-byte-preserved c = let inv = c.loop-byte.invariant in
+    let loop = c.loop-byte in
+    let inside = c.loop-byte-test.true in
+    elim c.if-byte-ne35.branch [
+      | then-byte-ne35 w ↦ rw (w.out-is, w.numbers-is, w.end-is) (then_byte inv inside w.if-byte-ne35.true)
+      | else-byte-ne35+in-Some w ↦
+          let room = room_mark inv inside w.if-byte-ne35.false in
+          rw (w.out-is, w.numbers-is, w.end-is)
+          (then_number inv inside w.if-byte-ne35.false w.in-Some.ensures.steps
+          (put_there (omega (arith, rest_room 20 loop.out loop.end (omega arith))) w.put_number-end.ensures))
+      | else-byte-ne35+in_default w ↦ rw (w.out-is, w.numbers-is, w.end-is)
+          (then_none inv inside w.if-byte-ne35.false w.in_default.ensures.steps.0 (ap iter_rest w.in_default.ensures.steps.1))
+    ]
 
 pub returns : goal.returns
-returns c = put_wrote c.has_room.ensures (ap not c.if-not-has_room.false) (ends c.loop-place.invariant c.loop-place-test.false)
+returns c = put_wrote c.has_room.ensures (ap not c.if-not-has_room.false)
+    (rw c.iter-numbers.ensures.rest at (ends c.loop-byte.invariant c.loop-byte-test.false))

@@ -38,8 +38,6 @@ within c =
 pub returns-then-empty_view : goal.returns-then-empty_view
 returns-then-empty_view c = record {
   part = empty_part _ _ _ _ _ _ (sym c.empty_view.ensures ∙ c.if-empty_view.true) refl refl;
-  delivered_value = refl;
-  received_value = refl;
 }
 
 pub overflow_sub-day : goal.overflow_sub-day
@@ -68,8 +66,6 @@ returns-then-number-eq0 c = record {
       c.readings_through-start.ensures
       c.day_length.ensures
       refl refl;
-  delivered_value = refl;
-  received_value = refl;
 }
 
 pub offset_bounds-received-start : goal.offset_bounds-received-start
@@ -86,6 +82,4 @@ returns c = record {
       c.readings_through-start.ensures
       c.day_length.ensures
       refl refl;
-  delivered_value = refl;
-  received_value = refl;
 }

@@ -1,35 +1,30 @@
 -- `table::next_number` reads one byte after the other: `Numbers` has the step.
 use mathlib.Core.Path.{◌∙◌, sym}
 use native.Mathlib.Omega.{arith}
-use Rattle.table.proofs.Numbers.{read_none, read_digit, read_other, read_end, read_all}
+use lib.ListN.{length, length-drop}
+use Rattle.std.proofs.lemmas.List.{take_rest}
+use Rattle.table.proofs.Numbers.{read_digit, read_other, read_end, read_all}
 use Rattle.table.proofs.next_number.Goals as goal
+use Rattle.table.proofs.next_number.Goals.{then-is_ascii_digit, else-is_ascii_digit+in_default}
 
-pub loop-place-init : goal.loop-place-init
-loop-place-init c = read_none _ _
-
-pub bounds-line-place : goal.bounds-line-place
-bounds-line-place c = omega arith
-
-pub overflow_add-place : goal.overflow_add-place
-overflow_add-place c = omega arith
-
-pub with_digit-value-requires : goal.with_digit-value-requires
-with_digit-value-requires c = sym c.is_digit.ensures ∙ c.if-is_digit.true
-
-pub loop-place-smaller-then-is_digit : goal.loop-place-smaller-then-is_digit
-loop-place-smaller-then-is_digit c = omega arith
-
-pub loop-place-preserved-then-is_digit : goal.loop-place-preserved-then-is_digit
-loop-place-preserved-then-is_digit c = read_digit c.loop-place.invariant c.loop-place-test.true (sym c.is_digit.ensures ∙ c.if-is_digit.true) c.with_digit-value.ensures
-
-pub returns-then-inside : goal.returns-then-inside
-returns-then-inside c = read_end c.loop-place.invariant c.loop-place-test.true (sym c.is_digit.ensures ∙ c.if-is_digit.false) c.if-inside.true
-
-pub loop-place-smaller : goal.loop-place-smaller
-loop-place-smaller c = omega arith
+pub returns-in-Some : goal.returns-in-Some
+returns-in-Some c =
+    rw take_rest
+    (read_end _ _ c.loop-place-test.true (rw c.in-Some.is at c.loop-place.invariant) (sym c.is_ascii_digit.ensures.value ∙ c.if-is_ascii_digit.false))
 
 pub loop-place-preserved : goal.loop-place-preserved
-loop-place-preserved c = read_other c.loop-place.invariant c.loop-place-test.true (sym c.is_digit.ensures ∙ c.if-is_digit.false) c.if-inside.false
+loop-place-preserved c =
+    let inv = c.loop-place.invariant in
+    let inside = c.loop-place-test.true in
+    let digit = sym c.is_ascii_digit.ensures.value in
+    elim c.if-is_ascii_digit.branch [
+      | then-is_ascii_digit w ↦
+          rw w.value-is (read_digit _ _ inside _ inv (digit ∙ w.if-is_ascii_digit.true) (rw w.unwrap_or.ensures at w.with_digit.ensures))
+      | else-is_ascii_digit+in_default w ↦
+          rw (w.value-is, w.in_default.is) (read_other _ _ inside (rw w.in_default.is at inv) (digit ∙ w.if-is_ascii_digit.false))
+    ]
 
 pub returns : goal.returns
-returns c = read_all c.loop-place.invariant c.loop-place-test.false
+returns c =
+    let line = c.args.line.now in
+    rw (take_rest, c.unwrap_or-2.ensures) (read_all line _ _ c.loop-place.invariant c.loop-place-test.false (omega (arith, length-drop (length line) line)))

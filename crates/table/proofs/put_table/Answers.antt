@@ -1,29 +1,24 @@
--- `table::put_table` chooses the template and the reason, and fills it in.
-use lib.Dec.{lit≤}
-use Rattle.table.proofs.Reasons.{row_within}
-use Rattle.printing.proofs.Writing.{put_none, put_wrote, room_for}
-use Rattle.table.proofs.Showing.{table_is, table_within}
-use mathlib.Core.Path.{ap}
-use mathlib.Core.Bool.{not}
+-- `table::put_table` fills in the template for a line, where there is room.
+use Prim.Native.Nat.{◌≤◌}
+use native.Mathlib.Omega.{arith}
+use Rattle.printing.proofs.Writing.{put_short, put_long}
+use Rattle.table.specs.Filling.{most_filled}
+use Rattle.table.proofs.Texts.{table_most, table_few}
+use Rattle.table.proofs.Showing.{table_shown}
 use Rattle.table.proofs.put_table.Goals as goal
 
-pub returns-then-not-fits : goal.returns-then-not-fits
-returns-then-not-fits c = put_none c.fits.ensures (ap not c.if-not-fits.true)
+pub returns-then-out-lt-TABLE_ROOM : goal.returns-then-out-lt-TABLE_ROOM
+returns-then-out-lt-TABLE_ROOM c = put_short 2048 c.args.out.now c.if-out-lt-TABLE_ROOM.true
 
-pub put_text-requires : goal.put_text-requires
-put_text-requires c = let width = c.width_of-width.ensures in (
-  room_for _ _ _ c.fits.ensures (ap not c.if-not-fits.false),
-  width.least,
-  width.most,
-  table_within _ _ c.table_text-text.ensures,
-  row_within _ _ c.row_of-row.ensures,
-  lit≤ tt,
-)
+pub put-requires : goal.put-requires
+put-requires c =
+    let sheet = c.of-sheet.result in
+    let most : most_filled c.table_template-table.result.text.now ≤ 2048 = rw c.table_template-table.ensures.text (table_most _ _) in
+    (omega arith, omega (arith, c.table_template-table.ensures.first, table_few sheet.kind sheet.refusal))
 
 pub returns : goal.returns
-returns c = let row = c.row_of-row.ensures in
-    let text = c.table_text-text.ensures in
-    let width = c.width_of-width in
-    put_wrote c.fits.ensures (ap not c.if-not-fits.false)
-    (table_is _ c.kind_of-kind.ensures c.numbers_of-numbers.ensures c.refusal_of-refusal.ensures row width.ensures.is text
-    c.put_text.ensures)
+returns c =
+    let sheet = c.of-sheet.ensures in
+    let template = c.table_template-table.ensures in
+    put_long 2048 c.args.out.now c.if-out-lt-TABLE_ROOM.false
+    (table_shown c.args.line.now sheet.kind sheet.numbers sheet.refusal c.row_of.ensures sheet.width.is template.text template.first c.put.ensures)

@@ -4,6 +4,3 @@ use Rattle.registers.proofs.Count.add_pair.Goals as goal
 
 pub returns-then-reading-next : goal.returns-then-reading-next
 returns-then-reading-next c = rw (← c.if-entry-next_entry.true) (pair_known _ _ _ _ c.if-reading-next.true c.add_same_entry.ensures)
-
-pub returns : goal.returns
-returns c = rw (← c.period_on-period.ensures, ← c.period_on-next_period.ensures) c.add_one_by_one.ensures

@@ -1,26 +1,25 @@
 -- `session::Session::finish` reads the bytes that are held, if there are any, and writes what the end prints: `Ending` has both cases.
-use mathlib.Core.Path.{refl}
-use native.Mathlib.Omega.{arith}
-use Rattle.progress.specs.Progressing.{state_of}
-use Rattle.lines.proofs.Buffers.{readings_same}
-use Rattle.session.specs.Sessions.{lent}
-use Rattle.session.proofs.Ending.{finish_none, finish_whole, finish_line}
+use Rattle.std.proofs.Common.{arith, refl}
+use Rattle.session.proofs.Ending.{finish_whole, empty, not_empty, finish_line, read_short, put_short}
 use Rattle.session.proofs.Session.finish.Goals as goal
 
-pub returns-then-out-lt-LEAST_ROOM : goal.returns-then-out-lt-LEAST_ROOM
-returns-then-out-lt-LEAST_ROOM c = finish_none _ _ _ c.if-out-lt-LEAST_ROOM.true
+pub returns-then-is_empty : goal.returns-then-is_empty
+returns-then-is_empty c = finish_whole c.args.self.now c.args.out.now c.finish.new.out c.finish.result
+    (empty _ (rw c.as_slice-held.ensures.value at c.is_empty.ensures) c.if-is_empty.true) c.if-out-lt-LEAST_ROOM.false c.finish.ensures
 
-pub returns-then-held-eq0 : goal.returns-then-held-eq0
-returns-then-held-eq0 c = let args = c.args in
-    let x = args.self.progress in
-    let d = args.delivered.now in
-    let e = args.received.now in
-    finish_whole args.self (lent args.line.now d e) args.out.now c.finish.new.out c.least-held.result c.finish.result
-    c.least-held.ensures c.if-held-eq0.true c.if-out-lt-LEAST_ROOM.false (readings_same (state_of x d e) x.stored d e refl refl) c.finish.ensures.text
+pub slice_bounds-finish-count : goal.slice_bounds-finish-count
+slice_bounds-finish-count c = let short = read_short _ _ _ _ _ _ c.if-out-lt-LEAST_ROOM.false c.read_line-written.ensures in
+    omega (arith, c.if-out-lt-LEAST_ROOM.false)
+
+pub slice_bounds-finish-start : goal.slice_bounds-finish-start
+slice_bounds-finish-start c = let short = read_short _ _ _ _ _ _ c.if-out-lt-LEAST_ROOM.false c.read_line-written.ensures in
+    omega (arith, c.if-out-lt-LEAST_ROOM.false)
+
+pub overflow_add-result : goal.overflow_add-result
+overflow_add-result c = let short = read_short _ _ _ _ _ _ c.if-out-lt-LEAST_ROOM.false c.read_line-written.ensures in
+    omega (arith, put_short _ _ _ _ c.finish-2.ensures)
 
 pub returns : goal.returns
-returns c = let args = c.args in
-    finish_line args.self (lent args.line.now args.delivered.now args.received.now) args.out.now
-    c.read_held-ended.new.out c.finish-2.new.out c.least-held.result c.read_held-ended.result.at
-    c.finish-2.result _ _ (omega (arith, c.read_held-arg-1.given))
-    c.least-held.ensures c.if-held-eq0.false c.if-out-lt-LEAST_ROOM.false c.read_held-ended.ensures c.finish-2.ensures.text
+returns c = finish_line c.args.self.now _ c.args.out.now c.read_line-written.new.out c.finish-2.new.out c.read_line-written.result c.finish-2.result
+    (not_empty _ (rw c.as_slice-held.ensures.value at c.is_empty.ensures) c.if-is_empty.false) c.if-out-lt-LEAST_ROOM.false
+    (rw c.as_slice-held.ensures.value at c.read_line-written.ensures) refl c.finish-2.ensures

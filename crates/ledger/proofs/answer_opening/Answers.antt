@@ -1,8 +1,0 @@
--- `ledger::answer_opening` hands on the account's reply.
-use Rattle.balances.specs.Calls.{answer_of, account_after}
-use Rattle.ledger.specs.Running.{step_of}
-use Rattle.ledger.proofs.answer_opening.Goals as goal
-
-pub returns : goal.returns
-unfolding step_of answer_of account_after
-returns c = rw (c.plain_answer.ensures, c.opening-reply.ensures)

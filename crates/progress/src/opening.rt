@@ -1,0 +1,114 @@
+// What the lines of the opening give.
+
+ghost use Rattle.std.specs.Prelude.{◌≡◌, ◌≤◌, get_or, replicate};
+ghost use Rattle.account.specs.Replies.{plain_reply};
+ghost use Rattle.lines.specs.Opening.{opening_length, rider_of, class_of};
+ghost use Rattle.lines.specs.Statement.{account_reply};
+ghost use Rattle.progress.specs.Expected.{line_place};
+ghost use Rattle.progress.specs.Values.{values_of, values_with};
+
+use crate::expected::OpeningLine;
+use account::{Account, Reply};
+use hours::ByPeriod;
+use tariff::{Class, PriceList, Rider, Terms};
+
+// The first month, the terms and the price list. What isn't read yet is 0, and the first of two words.
+#[derive(Clone, Copy)]
+pub struct Opening {
+    pub month: u32,
+    pub terms: Terms,
+    pub prices: PriceList,
+}
+
+// Of two words 0 is the first.
+fn rider_of(word: u64) -> Rider
+    ensures { result ≡ rider_of word }
+{
+    match word {
+        0 => Rider::Banked,
+        _ => Rider::Bridge,
+    }
+}
+
+fn class_of(word: u64) -> Class
+    ensures { result ≡ class_of word }
+{
+    match word {
+        0 => Class::Home,
+        _ => Class::Business,
+    }
+}
+
+// A number of a line, and 0 past the last.
+fn number_at(numbers: &[u32], place: usize) -> u64
+    ensures { result ≡ get_or numbers.now place 0 }
+{
+    numbers.get(place).copied().map_or(0, u64::from)
+}
+
+impl Opening {
+    // Nothing is read.
+    pub(crate) fn unread() -> Opening
+        ensures { values_of result ≡ replicate opening_length 0 }
+    {
+        let fresh = Account::fresh();
+        Opening {
+            month: 0,
+            terms: fresh.terms,
+            prices: fresh.prices,
+        }
+    }
+
+    // The numbers of one line more.
+    #[tactic(auto, unfolding(crate::specs::Values::values_with))]
+    pub(crate) fn keep(&mut self, line: OpeningLine, numbers: &[u32])
+        requires rider { line ≡ OpeningLine.Rider → get_or numbers.now 0 0 ≤ 1 }
+        requires class { line ≡ OpeningLine.Class → get_or numbers.now 0 0 ≤ 1 }
+        requires assisted { line ≡ OpeningLine.Assisted → get_or numbers.now 0 0 ≤ 1 }
+        ensures { values_of self.new ≡ values_with (values_of self.old) (line_place line) numbers.now }
+    {
+        let number = number_at(numbers, 0);
+        match line {
+            OpeningLine::Opens => self.month = numbers.first().copied().unwrap_or(0),
+            OpeningLine::Rider => self.terms.rider = rider_of(number),
+            OpeningLine::Class => self.terms.class = class_of(number),
+            OpeningLine::Nameplates => {
+                self.terms.count = numbers.len() as u64;
+                self.terms.nameplates = [
+                    number,
+                    number_at(numbers, 1),
+                    number_at(numbers, 2),
+                    number_at(numbers, 3),
+                    number_at(numbers, 4),
+                    number_at(numbers, 5),
+                    number_at(numbers, 6),
+                    number_at(numbers, 7),
+                ];
+            }
+            OpeningLine::Limit => self.terms.limit = number,
+            OpeningLine::Assisted => self.terms.assisted = number == 1,
+            OpeningLine::Prices => {
+                self.prices.energy = ByPeriod {
+                    critical: number,
+                    onpeak: number_at(numbers, 1),
+                    offpeak: number_at(numbers, 2),
+                    discount: number_at(numbers, 3),
+                };
+            }
+            OpeningLine::Demand => self.prices.demand = number,
+            OpeningLine::Standby => self.prices.standby = number,
+            OpeningLine::Bypass => self.prices.bypass = number,
+            OpeningLine::Credit => self.prices.credit = number,
+            OpeningLine::Distribution => self.prices.distribution = number,
+            OpeningLine::Basic => self.prices.basic = number,
+            OpeningLine::Minimum => self.prices.minimum = number,
+        }
+    }
+
+    // An account's answer to it.
+    pub(crate) fn open(self, account: Account) -> Reply<()>
+        ensures { plain_reply result ≡ account_reply account (values_of self) }
+    {
+        account.opening(self.terms, self.prices, self.month)
+    }
+}

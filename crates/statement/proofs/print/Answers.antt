@@ -1,0 +1,17 @@
+-- `statement::print` gives the session what was read, one piece after the other, and the verdict is that on what they print.
+use Rattle.std.proofs.Common.{sym, ◌∙◌}
+use Rattle.statement.proofs.Reaching.{reached_none, reached_more, reached_stop, reached_end}
+use Rattle.statement.proofs.print.Goals as goal
+
+pub loop-init : goal.loop-init
+loop-init c = reached_none _ c.start-session.ensures
+
+pub returns-then-is_stopped : goal.returns-then-is_stopped
+returns-then-is_stopped c =
+    reached_stop (reached_more _ _ c.loop.invariant c.in_ok-verdict.ensures) (sym c.is_stopped.ensures ∙ c.if-is_stopped.true)
+
+pub loop-preserved : goal.loop-preserved
+loop-preserved c = reached_more _ _ c.loop.invariant c.in_ok-verdict.ensures
+
+pub returns : goal.returns
+returns c = reached_end _ _ c.loop.invariant c.finish.ensures
