@@ -21,7 +21,8 @@ const LOST: u32 = u32::MAX;
 pub const MONTH_LIMIT: u64 = calendar::MOST_READINGS as u64 * READING_LIMIT as u64;
 
 // All that a bill reads from one register: whether a reading is above the limit or the first one lost, the sums by period, and the power in
-// W that the demand line prices.
+// W that the demand line prices. The two truth values are readings of their own, each for a row of the table of refusals that asks it in its turn; sums and
+// power are meant whatever they say.
 #[derive(Clone, Copy, PartialEq, Eq, Default, Debug)]
 pub struct Tally {
     pub abovelimit: bool,
@@ -38,6 +39,20 @@ struct Count {
     largest: u64,
     above: bool,
     last: u32,
+}
+
+// A count that has room for a pair more.
+#[derive(Clone, Copy)]
+struct Roomy {
+    so_far: Count,
+    ghost room: { Room 2 so_far },
+}
+
+// Two readings, one after the other.
+#[derive(Clone, Copy)]
+struct Pair {
+    reading: u32,
+    next: u32,
 }
 
 // What a reading counts as after the last one that isn't lost.
@@ -77,21 +92,23 @@ fn plus(sums: ByPeriod, period: u8, amount: u64) -> ByPeriod
     }
 }
 
-// The sum of a pair.
-fn pair_sum(reading: u32, next: u32) -> u64
-    ensures { result ≡ reading + next }
-{
-    u64::from(reading) + u64::from(next)
-}
+impl Pair {
+    // The sum.
+    fn sum(self) -> u64
+        ensures { result ≡ self.reading + self.next }
+    {
+        u64::from(self.reading) + u64::from(self.next)
+    }
 
-// The sum of a pair where it counts, which it does if either period is 0 or 1, else 0.
-fn counting_sum(period: u8, next_period: u8, reading: u32, next: u32) -> u64
-    ensures { result ≡ cond (is_peak period || is_peak next_period) (reading + next) 0 }
-{
-    if period <= hours::ON_PEAK || next_period <= hours::ON_PEAK {
-        pair_sum(reading, next)
-    } else {
-        0
+    // The sum where it counts, which it does if either period is 0 or 1, else 0.
+    fn counting_sum(self, period: u8, next_period: u8) -> u64
+        ensures { result ≡ cond (is_peak period || is_peak next_period) (self.reading + self.next) 0 }
+    {
+        if period <= hours::ON_PEAK || next_period <= hours::ON_PEAK {
+            self.sum()
+        } else {
+            0
+        }
     }
 }
 
@@ -110,16 +127,20 @@ impl Count {
             last: counted,
         }
     }
+}
 
+impl Roomy {
     // The count with one pair more, one reading after the other, whatever they are.
-    fn add_one_by_one(self, period: u8, next_period: u8, reading: u32, next: u32) -> Count
-        requires { Room 2 self }
-        ensures { FilledPair self period next_period reading next result }
+    fn add_one_by_one(self, period: u8, next_period: u8, pair: Pair) -> Count
+        ensures { FilledPair self.so_far period next_period pair.reading pair.next result }
     {
-        let half = self.add(period, reading);
-        let earlier = half.last;
-        let whole = half.add(next_period, next);
-        let sum = counting_sum(period, next_period, earlier, whole.last);
+        let half = self.so_far.add(period, pair.reading);
+        let whole = half.add(next_period, pair.next);
+        let filled = Pair {
+            reading: half.last,
+            next: whole.last,
+        };
+        let sum = filled.counting_sum(period, next_period);
         Count {
             largest: whole.largest.max(sum),
             ..whole
@@ -127,65 +148,66 @@ impl Count {
     }
 
     // The count with one pair more, both quarters of one period and the sum within the limit of a reading: so neither is lost or above it.
-    fn add_at_once(self, period: u8, reading: u32, next: u32) -> Count
-        requires room { Room 2 self }
-        requires next_bound { reading + next ≤ reading_limit }
-        ensures { AddedPair self period period reading next result }
+    fn add_at_once(self, period: u8, pair: Pair) -> Count
+        requires { pair.reading + pair.next ≤ reading_limit }
+        ensures { AddedPair self.so_far period period pair.reading pair.next result }
     {
+        let Count {
+            sums,
+            largest,
+            above,
+            ..
+        } = self.so_far;
         Count {
-            sums: plus(self.sums, period, pair_sum(reading, next)),
-            largest: self
-                .largest
-                .max(counting_sum(period, period, reading, next)),
-            above: self.above,
-            last: next,
+            sums: plus(sums, period, pair.sum()),
+            largest: largest.max(pair.counting_sum(period, period)),
+            above,
+            last: pair.next,
         }
     }
 
     // The same where the schedule has this entry for both quarters. Most pairs are off-peak or discount, in long runs: these tests come first.
-    fn add_same_entry(self, day: DayHours, entry: u8, reading: u32, next: u32) -> Count
-        requires room { Room 2 self }
-        requires next_bound { reading + next ≤ reading_limit }
-        ensures { AddedPair self (period_on_day day.critical entry) (period_on_day day.critical entry) reading next result }
+    fn add_same_entry(self, day: DayHours, entry: u8, pair: Pair) -> Count
+        requires { pair.reading + pair.next ≤ reading_limit }
+        ensures { AddedPair self.so_far (period_on_day day.critical entry) (period_on_day day.critical entry) pair.reading pair.next result }
     {
-        let sum = pair_sum(reading, next);
+        let count = self.so_far;
         if entry == hours::OFF_PEAK {
             let sums = ByPeriod {
-                offpeak: self.sums.offpeak + sum,
-                ..self.sums
+                offpeak: count.sums.offpeak + pair.sum(),
+                ..count.sums
             };
             return Count {
                 sums,
-                last: next,
-                ..self
+                last: pair.next,
+                ..count
             };
         }
         if entry == hours::DISCOUNT {
             let sums = ByPeriod {
-                discount: self.sums.discount + sum,
-                ..self.sums
+                discount: count.sums.discount + pair.sum(),
+                ..count.sums
             };
             return Count {
                 sums,
-                last: next,
-                ..self
+                last: pair.next,
+                ..count
             };
         }
-        self.add_at_once(hours::period_on(day, entry), reading, next)
+        self.add_at_once(hours::period_on(day, entry), pair)
     }
 
     // The count with one pair more, from its entries of the schedule. For nearly all pairs one test serves for the mark and the limit of both readings,
-    // and one addition for both. (By `pair_sum` this test made a bill slower.)
-    fn add_pair(self, day: DayHours, entry: u8, next_entry: u8, reading: u32, next: u32) -> Count
-        requires { Room 2 self }
-        ensures { FilledPair self (period_on_day day.critical entry) (period_on_day day.critical next_entry) reading next result }
+    // and one addition for both. (By `Pair::sum` this test made a bill slower.)
+    fn add_pair(self, day: DayHours, entry: u8, next_entry: u8, pair: Pair) -> Count
+        ensures { FilledPair self.so_far (period_on_day day.critical entry) (period_on_day day.critical next_entry) pair.reading pair.next result }
     {
-        if entry == next_entry && reading as u64 + next as u64 <= READING_LIMIT as u64 {
-            return self.add_same_entry(day, entry, reading, next);
+        if entry == next_entry && pair.reading as u64 + pair.next as u64 <= READING_LIMIT as u64 {
+            return self.add_same_entry(day, entry, pair);
         }
         let period = hours::period_on(day, entry);
         let next_period = hours::period_on(day, next_entry);
-        self.add_one_by_one(period, next_period, reading, next)
+        self.add_one_by_one(period, next_period, pair)
     }
 }
 
@@ -240,9 +262,11 @@ impl Day<'_> {
             let quarter = first_quarter + (place - from);
             let entry = self.schedule[row + quarter];
             let next_entry = self.schedule[row + (quarter + 1)];
-            let reading = self.register[self.start + place];
-            let next = self.register[self.start + (place + 1)];
-            so_far = so_far.add_pair(day_hours, entry, next_entry, reading, next);
+            let pair = Pair {
+                reading: self.register[self.start + place],
+                next: self.register[self.start + (place + 1)],
+            };
+            so_far = Roomy { so_far }.add_pair(day_hours, entry, next_entry, pair);
             place += 2;
         }
         so_far

@@ -88,8 +88,8 @@ overflow_add-next_entry-in-loop-place c = omega (arith, in_row (goal.at.overflow
 pub bounds-self-row-in-loop-place : goal.bounds-self-row-in-loop-place
 bounds-self-row-in-loop-place c = in_row (goal.at.bounds-self-row-in-loop-place c).In-loop-place
 
-pub overflow_add-reading : goal.overflow_add-reading
-overflow_add-reading c = omega (arith, inside (goal.at.overflow_add-reading c).In-loop-place)
+pub overflow_add-pair : goal.overflow_add-pair
+overflow_add-pair c = omega (arith, inside (goal.at.overflow_add-pair c).In-loop-place)
 
 pub offset_bounds-self-self : goal.offset_bounds-self-self
 offset_bounds-self-self c = omega (arith, inside (goal.at.offset_bounds-self-self c).In-loop-place)
@@ -97,11 +97,11 @@ offset_bounds-self-self c = omega (arith, inside (goal.at.offset_bounds-self-sel
 pub bounds-self-self : goal.bounds-self-self
 bounds-self-self c = omega (arith, inside (goal.at.bounds-self-self c).In-loop-place)
 
-pub overflow_add-next : goal.overflow_add-next
-overflow_add-next c = omega (arith, whole (goal.at.overflow_add-next c).In-loop-place)
+pub overflow_add-pair-in-loop-place : goal.overflow_add-pair-in-loop-place
+overflow_add-pair-in-loop-place c = omega (arith, whole (goal.at.overflow_add-pair-in-loop-place c).In-loop-place)
 
-pub overflow_add-next-in-loop-place : goal.overflow_add-next-in-loop-place
-overflow_add-next-in-loop-place c = omega (arith, inside (goal.at.overflow_add-next-in-loop-place c).In-loop-place)
+pub overflow_add-pair-in-loop-place-2 : goal.overflow_add-pair-in-loop-place-2
+overflow_add-pair-in-loop-place-2 c = omega (arith, inside (goal.at.overflow_add-pair-in-loop-place-2 c).In-loop-place)
 
 pub offset_bounds-self-self-in-loop-place : goal.offset_bounds-self-self-in-loop-place
 offset_bounds-self-self-in-loop-place c = omega (arith, inside (goal.at.offset_bounds-self-self-in-loop-place c).In-loop-place)
@@ -109,14 +109,16 @@ offset_bounds-self-self-in-loop-place c = omega (arith, inside (goal.at.offset_b
 pub bounds-self-self-in-loop-place : goal.bounds-self-self-in-loop-place
 bounds-self-self-in-loop-place c = inside (goal.at.bounds-self-self-in-loop-place c).In-loop-place
 
-pub add_pair-so_far-requires : goal.add_pair-so_far-requires
-add_pair-so_far-requires c = room
-    _ _ _ _
-    (λ i. omega (arith, c.args.self.of_32_bits i))
-    _ _ _
-    c.loop-place.invariant.3
-    c.args.self.in_month
-    (omega (arith, c.requires.to_bound))
+pub invariant_of-add_pair : goal.invariant_of-add_pair
+invariant_of-add_pair c = record {
+  room = room
+      _ _ _ _
+      (λ i. omega (arith, c.args.self.of_32_bits i))
+      _ _ _
+      c.loop-place.invariant.3
+      c.args.self.in_month
+      (omega (arith, c.requires.to_bound));
+}
 
 pub overflow_add-place : goal.overflow_add-place
 overflow_add-place c = omega (arith, inside (goal.at.overflow_add-place c).In-loop-place)

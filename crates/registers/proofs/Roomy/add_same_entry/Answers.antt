@@ -1,9 +1,9 @@
--- `registers::Count::add_same_entry` adds the sum off-peak or discount, where a critical day changes nothing, or as `add_at_once` does.
+-- `registers::Roomy::add_same_entry` adds the sum off-peak or discount, where a critical day changes nothing, or as `add_at_once` does.
 use mathlib.Core.Path.{refl}
 use native.Mathlib.Omega.{arith}
 use Rattle.hours.proofs.Laws.{period_stays}
 use Rattle.registers.proofs.Counting.{neither_above}
-use Rattle.registers.proofs.Count.add_same_entry.Goals as goal
+use Rattle.registers.proofs.Roomy.add_same_entry.Goals as goal
 
 pub returns-then-entry-eq-OFF_PEAK : goal.returns-then-entry-eq-OFF_PEAK
 returns-then-entry-eq-OFF_PEAK c = rw (c.if-entry-eq-OFF_PEAK.true, period_stays c.args.day.critical 2 (omega arith))
@@ -13,7 +13,7 @@ returns-then-entry-eq-OFF_PEAK c = rw (c.if-entry-eq-OFF_PEAK.true, period_stays
       offpeak = omega arith;
       discount = omega arith;
       largest = omega arith;
-      above = neither_above _ _ _ c.requires.next_bound;
+      above = neither_above _ _ _ c.requires;
       last = refl;
     })
 
@@ -25,7 +25,7 @@ returns-then-entry-eq-DISCOUNT c = rw (c.if-entry-eq-DISCOUNT.true, period_stays
       offpeak = omega arith;
       discount = omega arith;
       largest = omega arith;
-      above = neither_above _ _ _ c.requires.next_bound;
+      above = neither_above _ _ _ c.requires;
       last = refl;
     })
 

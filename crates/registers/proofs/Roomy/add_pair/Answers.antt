@@ -1,0 +1,6 @@
+-- `registers::Roomy::add_pair` asks the sum of what stands in both places: within the limit, neither is lost.
+use Rattle.registers.proofs.Counting.{pair_known}
+use Rattle.registers.proofs.Roomy.add_pair.Goals as goal
+
+pub returns-then-pair : goal.returns-then-pair
+returns-then-pair c = rw (← c.if-entry-next_entry.true) (pair_known _ _ _ _ c.if-pair.true c.add_same_entry.ensures)
