@@ -7,7 +7,8 @@ use native.Mathlib.Omega.{arith}
 use borrow.Author.Tests.{ne_eqb, le-leb}
 use lib.Dec.{eqb}
 use lib.ListN.{length, take}
-use Rattle.lines.specs.Statement.{State, line_read, text_from, lines_from, statement_of}
+use Rattle.text.specs.Text.{lines_from}
+use Rattle.lines.specs.Statement.{State, line_read, text_from, statement_of}
 use Rattle.lines.specs.Feeding.{kept_bytes, SoFar, nothing_read, after_byte, byte_text, after, printed, ending, taken_of, joined, pieces_text, Streams}
 use Rattle.lines.proofs.Lengths.{line_cut}
 use Rattle.lines.proofs.Quiet.{quiet}

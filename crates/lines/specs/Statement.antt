@@ -4,6 +4,7 @@ use Rattle.std.specs.Prelude.{Bool, cond, not, ◌||◌, List, [], ◌∷◌, �
 use Rattle.std.proofs.lemmas.List.Edits.{sets}
 use Rattle.account.specs.declared.Account.{Account}
 use Rattle.account.specs.Account.{PlainReply, BillingReply, fresh_account, opening_reply, billing_reply}
+use Rattle.text.specs.Text.{lines_from}
 use Rattle.grammar.specs.Grammar.{opening_line, bill_line, critical_line, run_line}
 use Rattle.printing.specs.Printing.{bill_text, open_text, line_text}
 use Rattle.lines.specs.Opening.{place_of_line, opening_length, kept_of_line, opening_month, opening_terms, opening_prices}
@@ -170,11 +171,6 @@ unfoldable pub text_from : State → List (List ℕ) → List ℕ
 text_from s [] = at_end s
 text_from s (l ∷ ls) = (line_read l s).text ++ text_from (line_read l s).state ls
 
--- Lines are the bytes between newline bytes. "The last line may lack its newline"; no bytes after the last newline are no line.
-unfoldable pub lines_from : List ℕ → List ℕ → List (List ℕ)
-lines_from l [] = cond (eqb (length l) 0) [] (l ∷ [])
-lines_from l (b ∷ bs) = cond (eqb b 10) (l ∷ lines_from [] bs) (lines_from (l ++ b ∷ []) bs)
-
--- What `statement` prints for an input.
+-- What `statement` prints for an input. "The last line may lack its newline": `lines_from`.
 unfoldable pub statement_of : List ℕ → List ℕ
 statement_of bytes = text_from start (lines_from [] bytes)

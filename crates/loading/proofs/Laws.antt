@@ -12,12 +12,13 @@ use lib.Seq.{take_all, drop-drop, length-take-le}
 use Rattle.calendar.proofs.Booleans.{and_both}
 use Rattle.hours.specs.Schedules.{schedule_length, is_entry, all_entries, schedule_refused}
 use Rattle.text.specs.Text.{lines_from}
+use Rattle.text.proofs.Laws.{Plain, line_first, line_last}
 use Rattle.grammar.specs.Grammar.{keyed}
 use Rattle.loading.specs.Loading.{periods_in, schedule_lines, all_good, all_given}
 use Rattle.loading.specs.Loading.{load_refused, load_number, table_after, newline, text_of}
 use Rattle.loading.proofs.Periods.{keyed_row}
 use Rattle.loading.proofs.Reading.{load_good}
-use Rattle.loading.proofs.Writing.{Plain, line_first, line_last, Full, rows_read}
+use Rattle.loading.proofs.Writing.{Full, rows_read}
 use Rattle.loading.proofs.Written.{readers, four_keys, text_there}
 
 -- Entries one after the other.

@@ -1,49 +1,24 @@
 -- Rows of a schedule that are written as lines, and read.
 use mathlib.Core.Path.{◌≡◌, refl, ap, ◌∙◌}
-use mathlib.Core.Bool.{Bool, true, false, cond}
+use mathlib.Core.Bool.{true}
 use mathlib.Core.List.{List, [], ◌∷◌, ◌++◌, append_assoc, map}
-use Prim.Native.Nat.{ℕ, zero, suc, ◌+◌, ◌-◌, ◌<◌}
+use Prim.Native.Nat.{ℕ, suc, ◌+◌, ◌-◌, ◌<◌}
 use native.Mathlib.Omega.{arith}
 use borrow.Author.Tests.{eq-eqb, ne_eqb, le-leb, leb-true}
-use lib.Dec.{eqb, leb}
-use lib.ListN.{length, length-append, length-map, drop_of_length-le}
-use lib.Seq.{take-length, take-append_seam, drop-append_seam, drop-append-add}
+use lib.Dec.{leb}
+use lib.ListN.{length, length-append, length-map}
+use lib.Seq.{drop-append_seam}
 use Rattle.calendar.proofs.Booleans.{and_both}
 use Rattle.hours.specs.Schedules.{is_entry, all_entries}
 use Rattle.text.specs.Text.{bytes_of, place_of, lines_from}
-use Rattle.text.proofs.Laws.{first_line}
+use Rattle.text.proofs.Laws.{Plain, plain_append, line_first}
 use Rattle.grammar.specs.Grammar.{begins_with, keyed}
 use Rattle.grammar.proofs.Texts.{keyed_yes}
 use Rattle.loading.specs.Loading.{is_period_digit, all_period_digits, periods_in, schedule_lines, all_good, all_given}
 use Rattle.loading.specs.Loading.{newline, line_of}
 use Rattle.loading.proofs.Periods.{periods_are}
 
--- A text without a newline in it: the place of one is its end.
-abbrev pub Plain : List ℕ → Type 0
-Plain l = place_of 10 l ≡ length l
-
-plain_append : (a b : List ℕ) → Plain a → place_of 10 (a ++ b) ≡ length a + place_of 10 b
-unfolding place_of
-plain_append [] b e = omega arith
-plain_append (x ∷ a) b e = by (eqb x 10) (plain_append a b) e
-  where
-    by : (t : Bool) → (Plain a → place_of 10 (a ++ b) ≡ length a + place_of 10 b) → cond t zero (suc (place_of 10 a)) ≡ suc (length a)
-        → cond t zero (suc (place_of 10 (a ++ b))) ≡ suc (length a) + place_of 10 b
-    by true rest e = absurd (omega (arith, e))
-    by false rest e = omega (arith, rest (omega (arith, e)))
-
--- It is the first line where a newline follows, and the last where nothing does.
-pub line_first : (l rest : List ℕ) → Plain l → lines_from [] (l ++ (newline ++ rest)) ≡ l ∷ lines_from [] rest
-unfolding place_of
-line_first l rest h =
-    let text = l ++ (newline ++ rest) in
-    let place : place_of 10 text ≡ length l = plain_append l (newline ++ rest) h ∙ omega arith in
-    first_line [] text (omega (arith, length-append l (newline ++ rest))) ∙ rw (place, take-append_seam, drop-append-add)
-
-pub line_last : (l : List ℕ) → Plain l → 0 < length l → lines_from [] l ≡ l ∷ []
-unfolding lines_from
-line_last l h k = first_line [] l (omega arith) ∙ rw (h, take-length, drop_of_length-le l {i = length l + 1} (omega arith))
-
+-- Four lines one after the other, whatever ends the last one.
 four_lines : (a b c d end : List ℕ) → Plain a → Plain b → Plain c → lines_from [] (d ++ end) ≡ d ∷ []
     → lines_from [] (a ++ newline ++ b ++ newline ++ c ++ newline ++ d ++ end) ≡ a ∷ b ∷ c ∷ d ∷ []
 four_lines a b c d end p q r e = simp append_assoc (rw (line_first a _ p, line_first b _ q, line_first c _ r, e))

@@ -1,17 +1,17 @@
 -- The lines of a text one after the other, and the status after them.
 use mathlib.Core.Path.{◌≡◌, refl, sym, ◌∙◌, ap}
 use mathlib.Core.Bool.{Bool, true, false, false≢true, cond, not, ◌&&◌}
-use mathlib.Core.List.{List, [], ◌∷◌, ◌++◌, append_assoc, append-nil}
+use mathlib.Core.List.{List, [], ◌∷◌, ◌++◌}
 use Prim.Native.Nat.{ℕ, zero, suc, ◌+◌, ◌≤◌, ◌<◌, min}
-use native.Mathlib.Nat.{suc-add}
 use native.Mathlib.Numerals.{add-one}
 use native.Mathlib.Omega.{arith}
 use borrow.Author.Tests.{eqb-true, ne_eqb, le-leb, leb-true, leb-false}
 use lib.Dec.{eqb, leb}
 use lib.ListN.{length, get_or, take, drop, length-append, drop_of_length-le}
 use lib.Seq.{take_all, take-suc, take-length, drop-length, take-append_seam, drop-append_seam}
-use Rattle.text.specs.Text.{bytes_of, place_of}
-use Rattle.lines.specs.Statement.{lines_from, statement_of}
+use Rattle.text.specs.Text.{bytes_of, place_of, lines_from}
+use Rattle.text.proofs.Laws.{first_line}
+use Rattle.lines.specs.Statement.{statement_of}
 use Rattle.std.specs.List.{IsFirstMatchOrLen}
 use Rattle.statement.specs.Status.{begins_as, number_place, is_zero, status_after, status_over, status_from, is_end, Ends}
 use Rattle.statement.proofs.Texts.{ends_line}
@@ -72,21 +72,6 @@ unfolding status_from
 ends_known {r} (Ends.told input e) = rw (le-leb r 2 (omega (arith, e, over_within 0 (lines_from [] (statement_of input)) (omega arith))))
 ends_known {r} (Ends.unread e) = rw e
 ends_known {r} (Ends.unwritten e) = rw e
-
--- The first line of a text that has one, and those behind it.
-first_line : (l text : List ℕ) → 0 < length l + length text
-    → lines_from l text ≡ (l ++ take (place_of 10 text) text) ∷ lines_from [] (drop (place_of 10 text + 1) text)
-unfolding lines_from place_of
-first_line l [] h = rw (ne_eqb (length l) 0 (λ e. omega arith), append-nil)
-first_line l (b ∷ text) h = by (eqb b 10) (first_line (l ++ b ∷ []) text (omega (arith, length-append l (b ∷ []))))
-  where
-    by : (t : Bool) → lines_from (l ++ b ∷ []) text ≡ ((l ++ b ∷ []) ++ take (place_of 10 text) text) ∷ lines_from [] (drop (place_of 10 text + 1) text)
-        → cond t (l ∷ lines_from [] text) (lines_from (l ++ b ∷ []) text)
-        ≡ (l ++ take (cond t zero (suc (place_of 10 text))) (b ∷ text)) ∷ lines_from [] (drop (cond t zero (suc (place_of 10 text)) + 1) (b ∷ text))
-    by true same = rw append-nil
-    by false same =
-        rw (suc-add (place_of 10 text) 1)
-        (same ∙ ap (λ (x : List ℕ). x ∷ lines_from [] (drop (place_of 10 text + 1) text)) (append_assoc l (b ∷ []) (take (place_of 10 text) text)))
 
 -- A newline behind a line changes nothing that is looked at.
 byte_same : (line : List ℕ) (place b : ℕ) → (b ≡ 0 → ⊥) → (b ≡ 10 → ⊥) → eqb (get_or (line ++ 10 ∷ []) place 0) b ≡ eqb (get_or line place 0) b

@@ -1,21 +1,21 @@
 -- The byte at which `status_after` looks is the first digit of the number that a text was printed from.
 use mathlib.Core.Path.{◌≡◌, refl, sym, ◌∙◌, ap}
 use mathlib.Core.Bool.{Bool, true, false, false≢true, cond, not, ◌&&◌}
-use mathlib.Core.List.{List, [], ◌∷◌, ◌++◌, append_assoc, append-nil}
+use mathlib.Core.List.{List, [], ◌∷◌, ◌++◌, append_assoc}
 use Prim.Native.Nat.{ℕ, zero, suc, ◌+◌, ◌*◌, ◌/◌, ◌%◌, ◌^◌, ◌≤◌, ◌<◌}
 use native.Mathlib.Nat.{pow-suc}
 use native.Mathlib.Omega.{arith}
 use borrow.Author.Tests.{eqb-true, ne_eqb, lt-ltb, le-ltb, ltb-false, not-true}
 use lib.Dec.{eqb, ltb}
-use lib.ListN.{length, get_or, drop}
+use lib.ListN.{length, get_or, drop, length-append}
 use Rattle.calendar.specs.Calendar.{year_of, month_of_year}
 use Rattle.calendar.proofs.Booleans.{and_both}
 use Rattle.billing.specs.declared.Bill.{Bill}
-use Rattle.text.specs.Text.{bytes_of}
+use Rattle.text.specs.Text.{bytes_of, place_of, lines_from}
+use Rattle.text.proofs.Laws.{Plain, plain_append, line_first}
 use Rattle.printing.specs.Text.{digit_byte, digits, decimal, mark, filled_in}
 use Rattle.printing.specs.Printing.{amounts, bill_template, bill_text, open_text, line_text}
 use Rattle.table.proofs.ReadsBack.{filled_mark, filled_byte}
-use Rattle.lines.specs.Statement.{lines_from}
 use Rattle.statement.specs.Status.{after_reply, status_after, status_over, status_from, StatusTells}
 use Rattle.statement.proofs.Texts.{open_ends, bill_ends, line_ends}
 use Rattle.statement.proofs.Lines.{status_cut, status_none}
@@ -41,47 +41,39 @@ first_zero (suc k) n rest h =
 
 -- A text is one line and its newline.
 record IsLine (text line : List ℕ) : Type 0 where
-  pub lines : (l : List ℕ) → lines_from l text ≡ (l ++ line) ∷ []
+  pub ends : text ≡ line ++ 10 ∷ []
+  pub plain : Plain line
 
 newline : IsLine (10 ∷ []) []
-unfolding lines_from
-newline = record { lines = λ l. rw append-nil }
+unfolding place_of
+newline = record { ends = refl; plain = refl }
 
--- It is with other bytes before it,
-after_byte_lem : {text line : List ℕ} (b : ℕ) → eqb b 10 ≡ false → IsLine text line → IsLine (b ∷ text) (b ∷ line)
-unfolding lines_from
-after_byte_lem {text} {line} b e x = record {
-  lines = λ l. rw e (x.lines (l ++ b ∷ []) ∙ ap (λ (z : List ℕ). z ∷ []) (append_assoc l (b ∷ []) line));
-}
+-- It is with other bytes before it, such as digits.
+after_word : {text line : List ℕ} (word : List ℕ) → Plain word → IsLine text line → IsLine (word ++ text) (word ++ line)
+after_word {line = line} word h x =
+    record {
+      ends = rw x.ends (sym (append_assoc word line (10 ∷ [])));
+      plain = plain_append word line h ∙ rw (x.plain, length-append);
+    }
 
-no_newline : List ℕ → Bool
-no_newline [] = true
-no_newline (b ∷ word) = not (eqb b 10) && no_newline word
+byte_plain : (b : ℕ) → eqb b 10 ≡ false → Plain (b ∷ [])
+unfolding place_of
+byte_plain b e = rw e
 
-after_word : {text line : List ℕ} (word : List ℕ) → no_newline word ≡ true → IsLine text line → IsLine (word ++ text) (word ++ line)
-unfolding no_newline
-after_word [] h x = x
-after_word (b ∷ word) h x =
-    let both = and_both (not (eqb b 10)) (no_newline word) h in
-    after_byte_lem b (not-true (eqb b 10) both.0) (after_word word both.1 x)
+digit_plain : (d : ℕ) → Plain (digit_byte d ∷ [])
+digit_plain d = byte_plain (digit_byte d) (ne_eqb (digit_byte d) 10 (λ e. omega arith))
 
--- such as digits.
-after_digit : {text line : List ℕ} (d : ℕ) → IsLine text line → IsLine (digit_byte d ∷ text) (digit_byte d ∷ line)
-after_digit d x = after_byte_lem (digit_byte d) (ne_eqb (digit_byte d) 10 (λ e. omega arith)) x
-
-after_digits : {text line : List ℕ} (k n : ℕ) → IsLine text line → IsLine (digits k n ++ text) (digits k n ++ line)
-unfolding digits
-after_digits zero n x = x
-after_digits {text} {line} (suc k) n x = by (ltb n 10) (after_digits {text = digit_byte (n % 10) ∷ text} {line = digit_byte (n % 10) ∷ line} k (n / 10) (after_digit (n % 10) x))
+digits_plain : (k n : ℕ) → Plain (digits k n)
+unfolding digits place_of
+digits_plain zero n = refl
+digits_plain (suc k) n = by (ltb n 10) (digits_plain k (n / 10))
   where
-    by : (t : Bool) → IsLine (digits k (n / 10) ++ digit_byte (n % 10) ∷ text) (digits k (n / 10) ++ digit_byte (n % 10) ∷ line)
-        → IsLine (cond t (digit_byte n ∷ []) (digits k (n / 10) ++ digit_byte (n % 10) ∷ []) ++ text)
-        (cond t (digit_byte n ∷ []) (digits k (n / 10) ++ digit_byte (n % 10) ∷ []) ++ line)
-    by true y = after_digit n x
-    by false y = rw (append_assoc (digits k (n / 10)) (digit_byte (n % 10) ∷ []) text, append_assoc (digits k (n / 10)) (digit_byte (n % 10) ∷ []) line) y
+    by : (t : Bool) → Plain (digits k (n / 10)) → Plain (cond t (digit_byte n ∷ []) (digits k (n / 10) ++ digit_byte (n % 10) ∷ []))
+    by true h = digit_plain n
+    by false h = plain_append (digits k (n / 10)) (digit_byte (n % 10) ∷ []) h ∙ rw (digit_plain (n % 10), length-append)
 
 after_number : {text line : List ℕ} (n : ℕ) → IsLine text line → IsLine (decimal n ++ text) (decimal n ++ line)
-after_number n x = after_digits 20 n x
+after_number n x = after_word (decimal n) (digits_plain 20 n) x
 
 -- A template whose last byte alone is a newline is one line when it is filled in.
 record SomeLine (text : List ℕ) : Type 0 where
@@ -99,7 +91,7 @@ unfolding filled_in
 filled_next b t [] true e f r = rw e (r [])
 filled_next b t (n ∷ ns) true e f r =
     rw (filled_mark b t n ns e) (record { line = decimal n ++ (r ns).line; is-line = after_number n (r ns).is-line })
-filled_next b t ns false e f r = rw (filled_byte b t ns e) (record { line = b ∷ (r ns).line; is-line = after_byte_lem b f (r ns).is-line })
+filled_next b t ns false e f r = rw (filled_byte b t ns e) (record { line = b ∷ (r ns).line; is-line = after_word (b ∷ []) (byte_plain b f) (r ns).is-line })
 
 filled_line : (t ns : List ℕ) → one_line t ≡ true → SomeLine (filled_in t ns)
 unfolding one_line filled_in
@@ -111,16 +103,16 @@ filled_line (b ∷ c ∷ t) ns h =
 
 -- The status after such a text is the one after its line.
 status_one : (s : ℕ) {text line : List ℕ} → IsLine text line → status_from s text ≡ status_after s line
-unfolding status_from status_over
-status_one s x = ap (status_over s) (x.lines [])
+unfolding status_from status_over lines_from
+status_one s {line = line} x = ap (status_over s) (ap (lines_from []) x.ends ∙ line_first line [] x.plain)
 
 -- The line of an opening, and that of a stop.
 open_line : (n : ℕ) → IsLine (open_text n) (bytes_of "open=" ++ (decimal n ++ []))
-unfolding open_text filled_in no_newline
+unfolding open_text filled_in place_of
 open_line n = after_word (bytes_of "open=") refl (after_number n newline)
 
 stop_line : (n : ℕ) → IsLine (line_text n) (bytes_of "line=" ++ (decimal n ++ []))
-unfolding line_text filled_in no_newline
+unfolding line_text filled_in place_of
 stop_line n = after_word (bytes_of "line=") refl (after_number n newline)
 
 open_status : (s n : ℕ) → n < 10 ^ 20 → status_from s (open_text n) ≡ after_reply s (eqb n 0)
@@ -152,7 +144,7 @@ month_line y q answer = bytes_of "bill=" ++ (decimal y ++ (bytes_of "-" ++ (deci
 
 month_line_lem : (t ns : List ℕ) (y q n : ℕ) {line : List ℕ} → IsLine (filled_in t ns) line
     → IsLine (filled_in (bytes_of "bill=#-## answer=#" ++ t) (y ∷ q / 10 ∷ q % 10 ∷ n ∷ ns)) (month_line y q (decimal n ++ line))
-unfolding filled_in no_newline
+unfolding filled_in place_of
 month_line_lem t ns y q n x =
     after_word (bytes_of "bill=") refl
     (after_number y

@@ -2,9 +2,9 @@
 use Rattle.std.specs.Prelude.{◌≡◌, Bool, cond, not, ◌&&◌, ◌||◌, List, [], ◌∷◌, ◌++◌, ℕ, ◌^◌, ◌<◌, eqb, leb, length, get_or}
 use Rattle.calendar.specs.Calendar.{year_of}
 use Rattle.billing.specs.declared.Bill.{Bill}
-use Rattle.text.specs.Text.{bytes_of}
+use Rattle.text.specs.Text.{bytes_of, lines_from}
 use Rattle.printing.specs.Printing.{open_text, bill_text, line_text}
-use Rattle.lines.specs.Statement.{lines_from, statement_of}
+use Rattle.lines.specs.Statement.{statement_of}
 
 -- Opening and months were accepted, all of them,
 abbrev pub accepted : ℕ

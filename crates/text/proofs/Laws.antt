@@ -1,4 +1,4 @@
--- Where a byte first stands, and the first line of a text.
+-- Where a byte first stands, and the lines of a text.
 use mathlib.Core.Path.{◌≡◌, refl, ◌∙◌, ap}
 use mathlib.Core.Bool.{Bool, cond, true, false}
 use mathlib.Core.List.{List, [], ◌∷◌, ◌++◌, append_assoc, append-nil}
@@ -7,7 +7,8 @@ use native.Mathlib.Nat.{suc-add}
 use native.Mathlib.Omega.{arith}
 use borrow.Author.Tests.{ne_eqb}
 use lib.Dec.{eqb}
-use lib.ListN.{length, take, drop, length-append, length-drop}
+use lib.ListN.{length, take, drop, length-append, length-drop, drop_of_length-le}
+use lib.Seq.{take-length, take-append_seam, drop-append-add}
 use Rattle.std.specs.List.{position_or_len}
 use Rattle.std.proofs.lemmas.List.Recursion.{is_position_or_len}
 use Rattle.text.specs.Text.{place_of, lines_from}
@@ -46,3 +47,28 @@ first_line l (b ∷ text) h = by (eqb b 10) (first_line (l ++ b ∷ []) text (om
     by false same =
         rw (suc-add (place_of 10 text) 1)
         (same ∙ ap (λ (x : List ℕ). x ∷ lines_from [] (drop (place_of 10 text + 1) text)) (append_assoc l (b ∷ []) (take (place_of 10 text) text)))
+
+-- A text without a newline in it: the place of one is its end.
+abbrev pub Plain : List ℕ → Type 0
+Plain l = place_of 10 l ≡ length l
+
+pub plain_append : (a b : List ℕ) → Plain a → place_of 10 (a ++ b) ≡ length a + place_of 10 b
+unfolding place_of
+plain_append [] b e = omega arith
+plain_append (x ∷ a) b e = by (eqb x 10) (plain_append a b) e
+  where
+    by : (t : Bool) → (Plain a → place_of 10 (a ++ b) ≡ length a + place_of 10 b) → cond t zero (suc (place_of 10 a)) ≡ suc (length a)
+        → cond t zero (suc (place_of 10 (a ++ b))) ≡ suc (length a) + place_of 10 b
+    by true rest e = absurd (omega (arith, e))
+    by false rest e = omega (arith, rest (omega (arith, e)))
+
+-- It is the first line where a newline follows, and the last where nothing does.
+pub line_first : (l rest : List ℕ) → Plain l → lines_from [] (l ++ 10 ∷ rest) ≡ l ∷ lines_from [] rest
+unfolding place_of
+line_first l rest h =
+    let place : place_of 10 (l ++ 10 ∷ rest) ≡ length l = plain_append l (10 ∷ rest) h ∙ omega arith in
+    first_line [] (l ++ 10 ∷ rest) (omega (arith, length-append l (10 ∷ rest))) ∙ rw (place, take-append_seam, drop-append-add)
+
+pub line_last : (l : List ℕ) → Plain l → 0 < length l → lines_from [] l ≡ l ∷ []
+unfolding lines_from
+line_last l h k = first_line [] l (omega arith) ∙ rw (h, take-length, drop_of_length-le l {i = length l + 1} (omega arith))
