@@ -1,7 +1,8 @@
-// Texts, as bytes.
+// Texts, as bytes; and how any items are written to a lent buffer.
 #![tactic(auto)]
 
 ghost use Rattle.std.specs.Prelude.{◌≡◌, ◌<◌, length, IfSome, unwrap_or};
+ghost use Rattle.std.proofs.lemmas.List.Edits.{sets};
 ghost use Rattle.text.specs.Text.{place_of};
 
 // The place where a byte first stands, if a text has it.
@@ -17,4 +18,15 @@ pub fn place_of(byte: u8, text: &[u8]) -> usize
     ensures { result ≡ place_of byte text.now }
 {
     find(byte, text).unwrap_or(text.len())
+}
+
+// Writes items to a buffer from a place on; what doesn't fit is left out.
+#[tactic(auto, using(crate::proofs::Writing::copied, crate::proofs::Writing::none_written))]
+pub fn write_at<T: Copy>(buffer: &mut [T], place: usize, items: &[T])
+    ensures { buffer.new ≡ sets buffer.old place items.now }
+{
+    if place < buffer.len() {
+        let fit = items.len().min(buffer.len() - place);
+        buffer[place..place + fit].copy_from_slice(&items[..fit]);
+    }
 }

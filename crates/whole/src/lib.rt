@@ -24,21 +24,11 @@ struct Fed {
     place: usize,
 }
 
-// Writes bytes to a text from a place on, as many as fit.
-fn write(text: &mut [u8], place: usize, bytes: &[u8])
-    ensures { text.new ≡ sets text.old place bytes.now }
-{
-    if place < text.len() {
-        let fits = bytes.len().min(text.len() - place);
-        text[place..place + fits].copy_from_slice(&bytes[..fits]);
-    }
-}
-
 // Adds bytes to a text, and says where the next ones go: places stay at the largest number, where nothing is written any more.
 fn add(text: &mut [u8], place: usize, bytes: &[u8]) -> usize
     ensures { Adds text.old place bytes.now text.new result }
 {
-    write(text, place, bytes);
+    text::write_at(text, place, bytes);
     place.saturating_add(bytes.len())
 }
 
