@@ -129,14 +129,14 @@ none_held : (l : List ℕ) → length l ≡ 0 → l ≡ []
 none_held [] h = refl
 none_held (b ∷ l) h = absurd (omega arith)
 
-module _ (x : Session) (later : Progress) (input out : List ℕ) (i taken : ℕ) (empty : length x.held.items ≡ 0) (w : RunsRead x.progress input taken later) where
+module _ (x : Session) (later : Progress) (input out : List ℕ) (i taken : ℕ) (w : RunsRead x.progress input taken later) where
   as_quiet : Quiet input (state_of x.progress) taken (state_of later)
   as_quiet = rw (w.takes, w.state) (quiet (length input) input (state_of x.progress))
 
   -- Some were taken.
-  pub takes_runs : (taken ≡ 0 → ⊥)
+  pub takes_runs : length x.held.items ≡ 0 → (taken ≡ 0 → ⊥)
       → TakesSome (so_far_of x) (registers_of x) input out i taken (held x.held.items (state_of later)) (registers_held later) i out
-  takes_runs h =
+  takes_runs empty h =
       let k = as_quiet in
       let text = k.text in
       rw (none_held x.held.items empty)

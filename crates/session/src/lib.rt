@@ -1,7 +1,7 @@
 // `statement` fed with bytes as they come.
 #![tactic(auto)]
 
-ghost use Rattle.std.specs.Prelude.{◌≡◌, true, ◌≤◌, length};
+ghost use Rattle.std.specs.Prelude.{◌≡◌, true};
 ghost use Rattle.printing.specs.Writing.{has_room};
 ghost use Rattle.lines.specs.Statement.{has_stopped};
 ghost use Rattle.lines.specs.Feeding.{nothing_read};
@@ -81,26 +81,16 @@ impl Session {
         }
     }
 
-    // Takes the run lines at the front of the input; or one line, where there are none.
-    fn take_runs(&mut self, input: &[u8], out: &mut [u8]) -> Fed
-        requires room { has_room out.old 0 ≡ true }
-        requires none_held { length self.old.held.items ≡ 0 }
-        ensures { Takes self.old input.now out.old 0 result.taken self.new result.written out.new }
-    {
-        let taken = self.progress.read_runs(input);
-        if taken == 0 {
-            return self.take_line(input, out);
-        }
-        Fed { taken, written: 0 }
-    }
-
-    // Takes run lines, or the rest of one line.
+    // Takes the run lines at the front of the input, where no byte is held; or the rest of one line, where there are none.
     fn take_lines(&mut self, input: &[u8], out: &mut [u8]) -> Fed
         requires { has_room out.old 0 ≡ true }
         ensures { Takes self.old input.now out.old 0 result.taken self.new result.written out.new }
     {
         if self.held.is_empty() {
-            return self.take_runs(input, out);
+            let taken = self.progress.read_runs(input);
+            if taken != 0 {
+                return Fed { taken, written: 0 };
+            }
         }
         self.take_line(input, out)
     }
