@@ -37,6 +37,8 @@ pub fn put_number(out: &mut [u8], number: u64) -> usize
 }
 
 // Writes a template at the front, with numbers in the places of its `#`s, where there is room, and says how many bytes that are; otherwise 0.
+// A template, and not `impl Display` or `write!`, since each text is proved equal to a definition that a reader ticks off against document 01; and it is put in
+// lent memory, by the rule that memory is fixed and has no heap.
 fn put_text(out: &mut [u8], template: &[u8], numbers: &[u64]) -> usize
     requires { most_bytes template.now ≤ text_room }
     ensures { Put out.old 0 (filled_in template.now numbers.now) out.new result }
