@@ -22,19 +22,19 @@ const OPENING_NUMBER: usize = 5;
 
 const MONTH_NUMBER: usize = 20;
 
-// What the printed lines say: opening and months were accepted, one was refused, or it stopped at a line.
+// What the printed lines say, under its number for C: opening and months were accepted, one was refused, or it stopped at a line.
 #[derive(Clone, Copy, PartialEq, Eq)]
 enum Verdict {
-    Accepted,
-    Refused,
-    StoppedAtLine,
+    Accepted = 0,
+    Refused = 1,
+    StoppedAtLine = 2,
 }
 
-// What could not be done.
+// What could not be done, likewise; 3 is left to the program above.
 #[derive(Clone, Copy, PartialEq, Eq)]
 enum Failure {
-    Read,
-    Write,
+    Read = 4,
+    Write = 5,
 }
 
 // Where what is printed goes, and how: lines as they are, or as tables; and whether refusals are explained to the errors.
@@ -51,11 +51,8 @@ fn end_number(end: Result<Verdict, Failure>) -> u32
     ensures { result ≡ end_of end }
 {
     match end {
-        Ok(Verdict::Accepted) => 0,
-        Ok(Verdict::Refused) => 1,
-        Ok(Verdict::StoppedAtLine) => 2,
-        Err(Failure::Read) => 4,
-        Err(Failure::Write) => 5,
+        Ok(verdict) => verdict as u32,
+        Err(failure) => failure as u32,
     }
 }
 
