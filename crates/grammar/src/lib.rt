@@ -84,7 +84,7 @@ fn keyed(line: &[u8], key: &[u8], value: Value) -> Option<ArrayVec<u32, MOST_NUM
     value.read(after_key(line, key)?)
 }
 
-// Line k + 1 of the fourteen that open the account.
+// Line k + 1 of the fourteen that open the account. k is any number: a type of fourteen lines would ask more of callers.
 #[tactic(auto, unfolding(crate::specs::Grammar::opening_line))]
 pub fn opening_line(k: u32, line: &[u8]) -> Option<ArrayVec<u32, MOST_NUMBERS>>
     ensures value { items_of result ≡ opening_line k line.now }

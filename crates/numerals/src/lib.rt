@@ -56,6 +56,7 @@ pub fn month_in(text: &[u8]) -> Option<u32>
 }
 
 // One number or more, up to N, with commas between them.
+// That there is one stays a clause, here and in the crate above: a type for it would wrap `ArrayVec` with methods of its own, and be no plainer.
 pub fn numbers_up_to<const N: usize>(text: &[u8]) -> Option<ArrayVec<u32, N>>
     ensures value { items_of result ≡ numbers_up_to N text.now }
     ensures some { IfSome result (λ numbers. 0 < array_vec_len numbers) }
