@@ -58,7 +58,6 @@ fn finish(session: &mut Session, text: &mut [u8], place: usize) -> usize
 pub fn statement_of(input: &[u8], text: &mut [u8]) -> u64
     ensures written { text.new ≡ sets text.old 0 (statement_of input.now) }
     ensures long { result ≡ length_of (statement_of input.now) }
-    ensures unaltered { input.now ≡ input.now }
 {
     let mut session = Session::start();
     let mut rest = input;

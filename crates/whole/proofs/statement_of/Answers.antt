@@ -1,5 +1,5 @@
 -- `whole::statement_of` feeds a session until it has taken all or is stopped: `Going` has the steps.
-use Rattle.std.proofs.Common.{rules, arith, refl, sym, ◌∙◌, length, length-drop}
+use Rattle.std.proofs.Common.{rules, arith, sym, ◌∙◌, length, length-drop}
 use Rattle.session.specs.Sessions.{so_far_of}
 use Rattle.text.proofs.Lists.{rest_is}
 use Rattle.whole.proofs.Going.{some_left, going_start, going_more, going_stopped, going_all, whole_long}
@@ -21,8 +21,8 @@ loop-rest-preserved c = let fed = c.feed_some-fed in
 pub returns-then-is_stopped : goal.returns-then-is_stopped
 returns-then-is_stopped c = let g = going_more {later = so_far_of c.feed_some-fed.new.session} (omega (arith, c.well_formed)) c.loop-rest.invariant c.feed_some-fed.ensures in
     let all = going_stopped g (sym c.is_stopped.ensures ∙ c.if-is_stopped.true) (omega (arith, c.feed_some-fed.ensures.adds.end)) in
-    record { written = all.bytes; long = whole_long all; unaltered = refl }
+    record { written = all.bytes; long = whole_long all }
 
 pub returns : goal.returns
 returns c = let all = going_all c.loop-rest.invariant (search rules) c.finish.ensures in
-    record { written = all.bytes; long = whole_long all; unaltered = refl }
+    record { written = all.bytes; long = whole_long all }
