@@ -1,4 +1,5 @@
 pub mod Account
+pub mod Codes
 pub mod Refusals
 pub mod Replies
 pub mod Tallies

@@ -5,6 +5,8 @@
 ghost use Rattle.std.specs.Prelude.{◌≡◌, ◌≤◌, Err, IfOk};
 ghost use Rattle.calendar.specs.Calendar.{last_month};
 ghost use Rattle.refusals.specs.Numbers.{number_of};
+ghost use Rattle.tariff.specs.Codes.{Decoded};
+ghost use Rattle.account.specs.Codes.{stage_at};
 ghost use Rattle.account.specs.Refusals.{contents_refused, cant_arise, unusable, billing_number};
 ghost use Rattle.account.specs.Account.{fresh_account, bill_of, after_bill, opening_reply, repricing_reply, billing_reply, closing_reply};
 ghost use Rattle.account.specs.Replies.{plain_reply, reply_with_bill, reply_with_amounts};
@@ -14,7 +16,7 @@ use billing::{Balance, Bill, Metered};
 use hours::ByPeriod;
 use refusals::{Condition, Faults, Refusal};
 use registers::Tally;
-use tariff::{Agreement, Class, PriceList, Rider, Terms};
+use tariff::{Agreement, Class, PriceList, Rider, Terms, UnknownCode};
 
 // The month after December 2099, which is next once that has been billed.
 const HIGHEST_NEXT: u32 = calendar::LAST_MONTH + 1;
@@ -24,6 +26,21 @@ pub enum Stage {
     Fresh,
     Open,
     Closed,
+}
+
+impl TryFrom<u64> for Stage {
+    type Error = UnknownCode;
+
+    ghost try_from_gives = { Decoded stage_at 2 };
+
+    fn try_from(code: u64) -> Result<Self, UnknownCode> {
+        match code {
+            0 => Ok(Stage::Fresh),
+            1 => Ok(Stage::Open),
+            2 => Ok(Stage::Closed),
+            _ => Err(UnknownCode(code)),
+        }
+    }
 }
 
 // Carried Wh by period and standing money in cents; next is the month that is billed next.

@@ -13,10 +13,11 @@ use Rattle.tariff.specs.Tariff.{most_nameplates}
 use Rattle.account.specs.declared.Stage.{Stage}
 use Rattle.account.specs.declared.Stage.TheVariants.{Fresh, Open, Closed}
 use Rattle.account.specs.declared.Account.{Account}
+use Rattle.account.specs.Codes.{stage_code, stage_at}
 use Rattle.records.specs.Sections.{terms_numbers, terms_at, known_terms, prices_numbers, prices_at}
 use Rattle.records.proofs.Sections.{later, terms_long, terms_back, terms_known, prices_long, prices_back}
 use Rattle.text.proofs.Lists.{sets-append}
-use Rattle.kozempil.specs.Interface.{stage_code, stage_at, account_row, is_account, account_at}
+use Rattle.kozempil.specs.Interface.{account_row, is_account, account_at}
 use Rattle.kozempil.specs.Interface.{stage_place, terms_place, prices_place, next_place, account_length}
 
 stage_known : (s : Stage) → leb (stage_code s) 2 ≡ true

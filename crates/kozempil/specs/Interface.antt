@@ -4,9 +4,8 @@ use Rattle.std.specs.Prelude.{◌≡◌, Bool, cond, ◌&&◌, List, [], ◌∷�
 use Rattle.std.proofs.lemmas.List.Edits.{sets}
 use Rattle.hours.specs.Hours.{four}
 use Rattle.registers.specs.DayView.{Part}
-use Rattle.account.specs.declared.Stage.{Stage}
-use Rattle.account.specs.declared.Stage.TheVariants.{Fresh, Open, Closed}
 use Rattle.account.specs.declared.Account.{Account}
+use Rattle.account.specs.Codes.{stage_code, stage_at}
 use Rattle.account.specs.Account.{fresh_account}
 use Rattle.records.specs.Sections.{terms_length, terms_numbers, terms_at, known_terms, prices_length, prices_numbers, prices_at, four_at}
 use Rattle.records.specs.Records.{record_length, is_call}
@@ -20,19 +19,6 @@ use Rattle.kozempil.specs.declared.Counts.{Counts}
 -- Our rule: the layout of calls, answers and accounts has a version, which rises when a place, a code or a number is added or changed.
 abbrev pub layout_version : ℕ
 layout_version = 3
-
--- Stages as numbers.
-abbrev pub stage_code : Stage → ℕ
-stage_code Fresh = 0
-stage_code Open = 1
-stage_code Closed = 2
-
-abbrev pub stage_at : ℕ → Stage
-stage_at n = cond (eqb n 0) Fresh (cond (eqb n 1) Open Closed)
-
--- The stage of a known code.
-abbrev pub stage_read : ℕ → Option Stage
-stage_read n = cond (leb n 2) (Some (stage_at n)) None
 
 -- The row of an account: stage; terms; price list; next month; carried by period; standing money.
 abbrev pub stage_place : ℕ

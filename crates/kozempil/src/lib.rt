@@ -10,7 +10,7 @@ ghost use Rattle.balances.specs.Calls.{answer_of, account_after};
 ghost use Rattle.ledger.specs.Encoding.{call_of, calls_in};
 ghost use Rattle.lines.specs.Statement.{statement_of};
 ghost use Rattle.whole.specs.Whole.{length_of};
-ghost use Rattle.kozempil.specs.Interface.{layout_version, stage_read, account_row, account_at, account_read};
+ghost use Rattle.kozempil.specs.Interface.{layout_version, account_row, account_at, account_read};
 ghost use Rattle.kozempil.specs.Interface.{ListAnswered, is_answered, answer_to, part_numbers};
 
 use account::{Account, Stage};
@@ -80,18 +80,6 @@ pub extern "C" fn kozempil_run(
     }
 }
 
-// The stage of a known code.
-fn stage_of(code: u64) -> Option<Stage>
-    ensures { result ≡ stage_read code }
-{
-    match code {
-        0 => Some(Stage::Fresh),
-        1 => Some(Stage::Open),
-        2 => Some(Stage::Closed),
-        _ => None,
-    }
-}
-
 // The account of its numbers, where they are an account.
 #[tactic(auto, unfolding(crate::specs::Interface::is_account, crate::specs::Interface::account_at, crate::specs::Interface::account_read, records::specs::Reading::terms_read))]
 fn account_at(words: &[u64]) -> Option<Account>
@@ -101,8 +89,8 @@ fn account_at(words: &[u64]) -> Option<Account>
         return None;
     }
     Some(Account {
-        stage: stage_of(words[STAGE_PLACE])?,
-        terms: records::terms_at(words, TERMS_PLACE)?,
+        stage: Stage::try_from(words[STAGE_PLACE]).ok()?,
+        terms: records::known_terms_at(words, TERMS_PLACE)?,
         prices: records::prices_at(words, PRICES_PLACE),
         next: records::small_at(words, NEXT_PLACE)?,
         carried: records::four_at(words, CARRIED_PLACE),

@@ -2,7 +2,7 @@
 
 ghost use Rattle.std.specs.Prelude.{◌≡◌, ◌≤◌, get_or, replicate};
 ghost use Rattle.account.specs.Replies.{plain_reply};
-ghost use Rattle.lines.specs.Opening.{opening_length, rider_of, class_of};
+ghost use Rattle.lines.specs.Opening.{opening_length};
 ghost use Rattle.lines.specs.Statement.{account_reply};
 ghost use Rattle.progress.specs.Expected.{line_place};
 ghost use Rattle.progress.specs.Values.{values_of, values_with};
@@ -18,25 +18,6 @@ pub struct Opening {
     pub month: u32,
     pub terms: Terms,
     pub prices: PriceList,
-}
-
-// Of two words 0 is the first.
-fn rider_of(word: u64) -> Rider
-    ensures { result ≡ rider_of word }
-{
-    match word {
-        0 => Rider::Banked,
-        _ => Rider::Bridge,
-    }
-}
-
-fn class_of(word: u64) -> Class
-    ensures { result ≡ class_of word }
-{
-    match word {
-        0 => Class::Home,
-        _ => Class::Business,
-    }
 }
 
 // A number of a line, and 0 past the last.
@@ -70,8 +51,13 @@ impl Opening {
         let number = number_at(numbers, 0);
         match line {
             OpeningLine::Opens => self.month = numbers.first().copied().unwrap_or(0),
-            OpeningLine::Rider => self.terms.rider = rider_of(number),
-            OpeningLine::Class => self.terms.class = class_of(number),
+            // The words of these two lines are numbered as the codes are.
+            OpeningLine::Rider => {
+                self.terms.rider = Rider::try_from(number).unwrap_or(Rider::Bridge);
+            }
+            OpeningLine::Class => {
+                self.terms.class = Class::try_from(number).unwrap_or(Class::Business);
+            }
             OpeningLine::Nameplates => {
                 self.terms.count = numbers.len() as u64;
                 self.terms.nameplates = [

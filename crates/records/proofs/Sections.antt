@@ -16,7 +16,8 @@ use Rattle.tariff.specs.declared.Class.TheVariants.{Home, Business}
 use Rattle.tariff.specs.declared.Terms.{Terms}
 use Rattle.tariff.specs.declared.PriceList.{PriceList}
 use Rattle.tariff.specs.Tariff.{most_nameplates, eight_at}
-use Rattle.records.specs.Sections.{rider_code, rider_at, class_code, class_at, yes_code}
+use Rattle.tariff.specs.Codes.{rider_code, rider_at, class_code, class_at}
+use Rattle.records.specs.Sections.{yes_code}
 use Rattle.records.specs.Sections.{terms_length, terms_numbers, terms_at, known_terms, prices_length, prices_numbers, prices_at}
 
 rider_known : (r : Rider) → leb (rider_code r) 1 ≡ true

@@ -1,21 +1,13 @@
 -- What is read of a record where its codes are known, and None where they aren't.
 use Rattle.std.specs.Prelude.{Bool, cond, List, ℕ, ◌^◌, eqb, leb, ltb, get_or, Option, Some, None}
-use Rattle.tariff.specs.declared.Rider.{Rider}
-use Rattle.tariff.specs.declared.Class.{Class}
 use Rattle.tariff.specs.declared.Terms.{Terms}
 use Rattle.records.specs.declared.Call.{Call}
 use Rattle.records.specs.declared.Call.TheVariants.{Opening, Repricing, Billing, Closing}
-use Rattle.records.specs.Sections.{rider_at, class_at, known_terms, terms_at, prices_at}
+use Rattle.records.specs.Sections.{known_terms, terms_at, prices_at}
 use Rattle.records.specs.Records.{opening_kind, repricing_kind, billing_kind, kind_of, opening_codes, billing_codes, is_call}
 use Rattle.records.specs.Records.{terms_place, prices_place, first_month_place, month_place, delivered_place, received_place, critical_place}
 
--- A code of two that are known.
-abbrev pub rider_read : ℕ → Option Rider
-rider_read n = cond (leb n 1) (Some (rider_at n)) None
-
-abbrev pub class_read : ℕ → Option Class
-class_read n = cond (leb n 1) (Some (class_at n)) None
-
+-- Yes or no of a known code.
 abbrev pub yes_read : ℕ → Option Bool
 yes_read n = cond (leb n 1) (Some (eqb n 1)) None
 

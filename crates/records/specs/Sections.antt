@@ -1,32 +1,15 @@
 -- How terms, price lists and amounts by period are written as numbers, and read from a list w of numbers from a place on. Past the end of
 -- w each number is 0. What is written is read back: theorems `terms_back`, `terms_known` and `prices_back` of proofs/Sections.antt; of terms this
 -- holds where they have eight places for nameplates, and those of the code always have.
-use Rattle.std.specs.Prelude.{Bool, true, false, cond, ◌&&◌, List, [], ◌∷◌, ◌++◌, ℕ, ◌+◌, eqb, leb, get_or}
+use Rattle.std.specs.Prelude.{Bool, true, false, ◌&&◌, List, [], ◌∷◌, ◌++◌, ℕ, ◌+◌, eqb, leb, get_or}
 use Rattle.hours.specs.Hours.{four}
 use Rattle.hours.specs.declared.ByPeriod.{ByPeriod}
-use Rattle.tariff.specs.declared.Rider.{Rider}
-use Rattle.tariff.specs.declared.Rider.TheVariants.{Banked, Bridge}
-use Rattle.tariff.specs.declared.Class.{Class}
-use Rattle.tariff.specs.declared.Class.TheVariants.{Home, Business}
 use Rattle.tariff.specs.declared.Terms.{Terms}
 use Rattle.tariff.specs.declared.PriceList.{PriceList}
 use Rattle.tariff.specs.Tariff.{most_nameplates, eight_at}
+use Rattle.tariff.specs.Codes.{rider_code, rider_at, class_code, class_at}
 
--- Riders, classes and yes or no as numbers.
-abbrev pub rider_code : Rider → ℕ
-rider_code Banked = 0
-rider_code Bridge = 1
-
-abbrev pub rider_at : ℕ → Rider
-rider_at n = cond (eqb n 0) Banked Bridge
-
-abbrev pub class_code : Class → ℕ
-class_code Home = 0
-class_code Business = 1
-
-abbrev pub class_at : ℕ → Class
-class_at n = cond (eqb n 0) Home Business
-
+-- Yes or no as a number.
 abbrev pub yes_code : Bool → ℕ
 yes_code false = 0
 yes_code true = 1

@@ -5,9 +5,9 @@
 ghost use Rattle.std.specs.Prelude.{◌≡◌, ◌+◌, get_or, take, drop};
 ghost use Rattle.std.proofs.lemmas.List.Edits.{sets};
 ghost use Rattle.tariff.specs.Tariff.{eight_at};
-ghost use Rattle.records.specs.Sections.{rider_code, class_code, yes_code, four_at, nameplates_place};
-ghost use Rattle.records.specs.Sections.{terms_numbers, prices_numbers, prices_at};
-ghost use Rattle.records.specs.Reading.{rider_read, class_read, yes_read, terms_read, small_read, opening_read, billing_read, call_read};
+ghost use Rattle.records.specs.Sections.{yes_code, four_at, nameplates_place};
+ghost use Rattle.records.specs.Sections.{terms_numbers, terms_at, prices_numbers, prices_at};
+ghost use Rattle.records.specs.Reading.{yes_read, terms_read, small_read, opening_read, billing_read, call_read};
 ghost use Rattle.records.specs.Reading.{delivered_said, received_said};
 ghost use Rattle.records.specs.Rows.{row_of};
 
@@ -98,28 +98,6 @@ pub struct Answer {
     pub amounts: ClosingAmounts,
 }
 
-// The rider of a known code. The codes are this crate's, and `TryFrom` for a type of `tariff` could stand in `tariff` alone, so this is a function.
-fn rider_of(code: u64) -> Option<Rider>
-    ensures { result ≡ rider_read code }
-{
-    match code {
-        0 => Some(Rider::Banked),
-        1 => Some(Rider::Bridge),
-        _ => None,
-    }
-}
-
-// The class of a known code.
-fn class_of(code: u64) -> Option<Class>
-    ensures { result ≡ class_read code }
-{
-    match code {
-        0 => Some(Class::Home),
-        1 => Some(Class::Business),
-        _ => None,
-    }
-}
-
 // Yes or no of a known code.
 fn yes_of(code: u64) -> Option<bool>
     ensures { result ≡ yes_read code }
@@ -152,21 +130,31 @@ fn nameplates_at(words: &[u64], place: usize) -> [u64; MOST_NAMEPLATES]
     std::array::from_fn(|i| number_from(words, place, NAMEPLATES_PLACE + i))
 }
 
-// The terms that start at a place, where their codes are known.
-#[tactic(auto, unfolding(crate::specs::Sections::terms_at, crate::specs::Sections::known_terms, crate::specs::Reading::terms_read))]
-pub fn terms_at(words: &[u64], place: usize) -> Option<Terms>
-    ensures { result ≡ terms_read words.now place }
+// The terms that start at a place. An unknown code of a rider or a class is read as that of the second, and one of assisted as no.
+#[tactic(auto, unfolding(crate::specs::Sections::terms_at))]
+pub fn terms_at(words: &[u64], place: usize) -> Terms
+    ensures { result ≡ terms_at words.now place }
 {
-    let rider = rider_of(number_from(words, place, RIDER_PLACE))?;
-    let class = class_of(number_from(words, place, CLASS_PLACE))?;
-    let assisted = yes_of(number_from(words, place, ASSISTED_PLACE))?;
-    Some(Terms {
-        rider,
-        class,
+    Terms {
+        rider: Rider::try_from(number_from(words, place, RIDER_PLACE)).unwrap_or(Rider::Bridge),
+        class: Class::try_from(number_from(words, place, CLASS_PLACE)).unwrap_or(Class::Business),
         count: number_from(words, place, NAMEPLATE_COUNT_PLACE),
         nameplates: nameplates_at(words, place),
         limit: number_from(words, place, LIMIT_PLACE),
-        assisted,
+        assisted: number_from(words, place, ASSISTED_PLACE) == 1,
+    }
+}
+
+// The same, where its codes are known.
+#[tactic(auto, unfolding(crate::specs::Sections::terms_at, crate::specs::Sections::known_terms, crate::specs::Reading::terms_read))]
+pub fn known_terms_at(words: &[u64], place: usize) -> Option<Terms>
+    ensures { result ≡ terms_read words.now place }
+{
+    Some(Terms {
+        rider: Rider::try_from(number_from(words, place, RIDER_PLACE)).ok()?,
+        class: Class::try_from(number_from(words, place, CLASS_PLACE)).ok()?,
+        assisted: yes_of(number_from(words, place, ASSISTED_PLACE))?,
+        ..terms_at(words, place)
     })
 }
 
@@ -212,7 +200,7 @@ fn opening_at(words: &[u64]) -> Option<Call>
     ensures { result ≡ opening_read words.now }
 {
     Some(Call::Opening {
-        terms: terms_at(words, TERMS_PLACE)?,
+        terms: known_terms_at(words, TERMS_PLACE)?,
         prices: prices_at(words, PRICES_PLACE),
         month: small_at(words, FIRST_MONTH_PLACE)?,
     })

@@ -4,6 +4,7 @@
 ghost use Rattle.std.specs.Prelude.{◌≡◌, ◌-◌, ◌^◌, min};
 ghost use Rattle.tariff.specs.Tariff.{some_over, prices_rise, prices_refused, nameplates_of, nameplates_refused, total_nameplate, class_limit};
 ghost use Rattle.tariff.specs.Tariff.{some_below_one, capacity_limit, capacity_refused, bridge_refused};
+ghost use Rattle.tariff.specs.Codes.{rider_at, class_at, Decoded};
 
 use hours::ByPeriod;
 
@@ -18,6 +19,38 @@ pub enum Rider {
 pub enum Class {
     Home,
     Business,
+}
+
+// A number that is the code of no value.
+#[derive(Clone, Copy, PartialEq, Eq, Debug)]
+pub struct UnknownCode(pub u64);
+
+impl TryFrom<u64> for Rider {
+    type Error = UnknownCode;
+
+    ghost try_from_gives = { Decoded rider_at 1 };
+
+    fn try_from(code: u64) -> Result<Self, UnknownCode> {
+        match code {
+            0 => Ok(Rider::Banked),
+            1 => Ok(Rider::Bridge),
+            _ => Err(UnknownCode(code)),
+        }
+    }
+}
+
+impl TryFrom<u64> for Class {
+    type Error = UnknownCode;
+
+    ghost try_from_gives = { Decoded class_at 1 };
+
+    fn try_from(code: u64) -> Result<Self, UnknownCode> {
+        match code {
+            0 => Ok(Class::Home),
+            1 => Ok(Class::Business),
+            _ => Err(UnknownCode(code)),
+        }
+    }
 }
 
 // The most nameplates that terms hold (02 No. 3).

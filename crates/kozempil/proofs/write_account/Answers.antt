@@ -1,7 +1,7 @@
 -- `kozempil::write_account` writes the row's parts one after the other: `Accounts` puts them together.
 use Rattle.std.proofs.Common.{◌≡◌, [], ◌∷◌, rules}
 use Rattle.std.proofs.lemmas.List.Edits.{sets}
-use Rattle.kozempil.specs.Interface.{stage_code}
+use Rattle.account.specs.Codes.{stage_code}
 use Rattle.kozempil.proofs.Accounts.{row_written}
 use Rattle.kozempil.proofs.write_account.Goals as goal
 
