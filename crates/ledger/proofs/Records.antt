@@ -1,13 +1,13 @@
 -- What is read of a record is its call, with the readings that it takes.
-use Rattle.std.proofs.Common.{◌≡◌, ℕ, Bool, true, false, cond, List, Some, None, refl, eqb, arith}
+use Rattle.std.proofs.Common.{◌≡◌, ℕ, Bool, true, false, cond, List, Some, None, refl, arith}
 use Rattle.std.proofs.lemmas.Option.{cond_some}
 use Rattle.std.proofs.lemmas.Bool.Decides.{nat_tests}
-use borrow.Author.Tests.{eqb-true, eq-eqb, ne_eqb}
+use borrow.Author.Tests.{eq-eqb, ne_eqb}
 use Rattle.std.specs.Option.{option_map}
 use lib.ListN.{length}
 use Rattle.account.specs.declared.Account.{Account}
 use Rattle.records.specs.declared.Call.{Call}
-use Rattle.records.specs.Records.{opening_kind, repricing_kind, billing_kind, kind_of, record_length, delivered_place, received_place, count_at, is_call}
+use Rattle.records.specs.Records.{record_length, delivered_place, received_place, count_at, is_call}
 use Rattle.records.specs.Reading.{said_by, call_read, delivered_said, received_said}
 use Rattle.balances.specs.Calls.{answer_of, account_after}
 use Rattle.ledger.specs.Encoding.{call_of, answered_of}

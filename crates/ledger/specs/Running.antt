@@ -1,19 +1,12 @@
 -- What the private functions promise each other. No public contract cites this file.
 use Rattle.std.specs.Prelude.{List, ℕ, ◌/◌, min}
-use Rattle.billing.specs.Billing.{no_bill}
 use Rattle.account.specs.declared.Account.{Account}
-use Rattle.account.specs.Account.{no_amounts}
-use Rattle.records.specs.declared.Answer.{Answer}
 use Rattle.records.specs.declared.Call.{Call as Said}
 use Rattle.records.specs.declared.Call.TheVariants.{Opening, Repricing, Billing, Closing}
 use Rattle.records.specs.Rows.{row_length}
 use Rattle.ledger.specs.declared.Ran.{Ran}
 use Rattle.ledger.specs.declared.Answered.{Answered}
 use Rattle.balances.specs.Calls.{Call, opening, repricing, billing, closing, answer_of, account_after}
-
--- An answer that is a number alone.
-abbrev pub plain_answer : ℕ → Answer
-plain_answer n = record { number = n; bill = no_bill; amounts = no_amounts }
 
 -- The answer to a call, with the account after it.
 unfoldable pub step_of : Account → Call → Answered

@@ -4,9 +4,9 @@
 ghost use Rattle.std.specs.Prelude.{◌≡◌};
 ghost use Rattle.ledger.specs.Encoding.{answered_of};
 ghost use Rattle.ledger.specs.DemandThree.{DemandThree};
-ghost use Rattle.ledger.specs.Running.{plain_answer, step_of, with_readings, ran_to};
+ghost use Rattle.ledger.specs.Running.{step_of, with_readings, ran_to};
 
-use account::{Account, ClosingAmounts};
+use account::Account;
 use records::{Answer, Call};
 
 // The answer to a call, and the account after it.
@@ -24,17 +24,6 @@ pub struct Ran {
     pub written: u64,
 }
 
-// No bill, and no amounts of a closing, beside a number.
-fn plain_answer(number: u32) -> Answer
-    ensures { result ≡ plain_answer number }
-{
-    Answer {
-        number,
-        bill: billing::no_bill(),
-        amounts: ClosingAmounts::default(),
-    }
-}
-
 // The answer to a call with the readings of a billing.
 #[tactic(auto, unfolding(crate::specs::Running::step_of, balances::specs::Calls::answer_of, balances::specs::Calls::account_after))]
 fn answer_call(account: Account, call: Call, delivered: &[u32], received: &[u32]) -> Answered
@@ -49,14 +38,20 @@ fn answer_call(account: Account, call: Call, delivered: &[u32], received: &[u32]
             let opened = account.opening(terms, prices, month);
             Answered {
                 account: opened.account,
-                answer: plain_answer(opened.number()),
+                answer: Answer {
+                    number: opened.number(),
+                    ..Answer::default()
+                },
             }
         }
         Call::Repricing { prices } => {
             let repriced = account.repricing(prices);
             Answered {
                 account: repriced.account,
-                answer: plain_answer(repriced.number()),
+                answer: Answer {
+                    number: repriced.number(),
+                    ..Answer::default()
+                },
             }
         }
         Call::Billing {
@@ -68,8 +63,9 @@ fn answer_call(account: Account, call: Call, delivered: &[u32], received: &[u32]
             Answered {
                 account: billed.account,
                 answer: Answer {
-                    bill: billed.answer.unwrap_or(billing::no_bill()),
-                    ..plain_answer(billed.number())
+                    number: billed.number(),
+                    bill: billed.answer.unwrap_or_default(),
+                    ..Answer::default()
                 },
             }
         }
@@ -78,8 +74,9 @@ fn answer_call(account: Account, call: Call, delivered: &[u32], received: &[u32]
             Answered {
                 account: closed.account,
                 answer: Answer {
+                    number: closed.number(),
                     amounts: closed.answer.unwrap_or_default(),
-                    ..plain_answer(closed.number())
+                    ..Answer::default()
                 },
             }
         }

@@ -198,15 +198,11 @@ impl Progress {
     }
 
     // Its text: a refused month's amounts are 0.
+    #[tactic(auto, using(billing::proofs::Laws::bill_or_default))]
     fn month_text(&self, reply: Reply<Bill>) -> Text
         ensures { text_of result ≡ bill_text self.now.month (reply_with_bill reply).number (reply_with_bill reply).bill }
     {
-        let number = reply.number();
-        Text::Month(
-            self.month,
-            number,
-            reply.answer.unwrap_or(billing::no_bill()),
-        )
+        Text::Month(self.month, reply.number(), reply.answer.unwrap_or_default())
     }
 
     // The account after that, and the month's text.

@@ -91,7 +91,7 @@ pub enum Call {
 
 // The answer to one call: its number and every amount, 0 in those that the call doesn't return, since a row of the interface for C has a place
 // for each.
-#[derive(Clone, Copy)]
+#[derive(Clone, Copy, Default)]
 pub struct Answer {
     pub number: u32,
     pub bill: Bill,
