@@ -125,12 +125,23 @@ impl Account {
         }
     }
 
+    // What it is billed by.
+    fn agreement(&self) -> Agreement
+        ensures terms { result.terms ≡ self.now.terms }
+        ensures prices { result.prices ≡ self.now.prices }
+    {
+        Agreement {
+            terms: self.terms,
+            prices: self.prices,
+        }
+    }
+
     // Whether the checks of an opening refuse what the account holds.
     #[tactic(auto, using(refusals::proofs::Laws::contents_err), unfolding(crate::specs::Refusals::contents_refused))]
     fn contents_refused(&self) -> bool
         ensures { result ≡ contents_refused self.now.terms self.now.prices }
     {
-        refusals::contents_row(self.terms, self.prices).is_err()
+        refusals::contents_row(self.agreement()).is_err()
     }
 
     // Whether the account can't arise.
@@ -203,10 +214,6 @@ impl Account {
         let wrongdays = hours::critical_refused(month, critical_days);
         let faults = faults_of(taken, given, wrongdays);
         refusals::billing_row(condition, self.next, month, faults)?;
-        let agreement = Agreement {
-            terms: self.terms,
-            prices: self.prices,
-        };
         let balance = Balance {
             carried: self.carried,
             standing: self.standing,
@@ -217,22 +224,22 @@ impl Account {
             exported: given.sums,
             power: taken.power,
         };
-        Ok(billing::bill_from(agreement, balance, metered))
+        Ok(billing::bill_from(self.agreement(), balance, metered))
     }
 
     // Opens a fresh account.
     #[tactic(auto, using(refusals::proofs::Numbers::number_above), unfolding(crate::specs::Account::opening_reply, crate::specs::Refusals::opening_number))]
-    pub fn opening(self, terms: Terms, prices: PriceList, month: u32) -> Reply<()>
-        ensures { plain_reply result ≡ opening_reply self terms prices month }
+    pub fn opening(self, agreement: Agreement, month: u32) -> Reply<()>
+        ensures { plain_reply result ≡ opening_reply self agreement.terms agreement.prices month }
     {
-        match refusals::opening_row(self.condition(), terms, prices, month) {
+        match refusals::opening_row(self.condition(), agreement, month) {
             Err(refusal) => self.refused(refusal),
             Ok(()) => Reply {
                 answer: Ok(()),
                 account: Account {
                     stage: Stage::Open,
-                    terms,
-                    prices,
+                    terms: agreement.terms,
+                    prices: agreement.prices,
                     next: month,
                     ..Account::fresh()
                 },

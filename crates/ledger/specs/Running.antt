@@ -14,7 +14,7 @@ step_of a c = record { account = account_after a c; answer = answer_of a c }
 
 -- What a record says, with the readings of a billing.
 abbrev pub with_readings : Said → List ℕ → List ℕ → Call
-with_readings (Opening t l m) delivered received = opening t l m
+with_readings (Opening a m) delivered received = opening a.terms a.prices m
 with_readings (Repricing l) delivered received = repricing l
 with_readings (Billing m taken given x) delivered received = billing m delivered received x
 with_readings Closing delivered received = closing

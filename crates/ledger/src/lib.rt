@@ -30,12 +30,8 @@ fn answer_call(account: Account, call: Call, delivered: &[u32], received: &[u32]
     ensures { result ≡ step_of account (with_readings call delivered.now received.now) }
 {
     match call {
-        Call::Opening {
-            terms,
-            prices,
-            month,
-        } => {
-            let opened = account.opening(terms, prices, month);
+        Call::Opening { agreement, month } => {
+            let opened = account.opening(agreement, month);
             Answered {
                 account: opened.account,
                 answer: Answer {

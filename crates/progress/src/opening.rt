@@ -10,7 +10,7 @@ ghost use Rattle.progress.specs.Values.{values_of, values_with};
 use crate::expected::OpeningLine;
 use account::{Account, Reply};
 use hours::ByPeriod;
-use tariff::{Class, PriceList, Rider, Terms};
+use tariff::{Agreement, Class, PriceList, Rider, Terms};
 
 // The first month, the terms and the price list. What isn't read yet is 0, and the first of two words.
 #[derive(Clone, Copy)]
@@ -95,6 +95,10 @@ impl Opening {
     pub(crate) fn open(self, account: Account) -> Reply<()>
         ensures { plain_reply result ≡ account_reply account (values_of self) }
     {
-        account.opening(self.terms, self.prices, self.month)
+        let agreement = Agreement {
+            terms: self.terms,
+            prices: self.prices,
+        };
+        account.opening(agreement, self.month)
     }
 }

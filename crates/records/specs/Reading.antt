@@ -21,7 +21,8 @@ small_read w place = cond (ltb (get_or w place 0) (2 ^ 32)) (Some (get_or w plac
 
 -- What an opening's and a billing's record say.
 abbrev pub opening_said : List ℕ → Call
-opening_said w = Opening (terms_at w terms_place) (prices_at w prices_place) (get_or w first_month_place 0)
+opening_said w =
+    Opening (record { terms = terms_at w terms_place; prices = prices_at w prices_place }) (get_or w first_month_place 0)
 
 abbrev pub billing_said : List ℕ → Call
 billing_said w = Billing (get_or w month_place 0) (get_or w delivered_place 0) (get_or w received_place 0) (get_or w critical_place 0)
@@ -45,12 +46,12 @@ call_read w = cond (is_call w) (Some (said_by w)) None
 -- How many readings a call takes from each register: a billing alone takes some.
 abbrev pub delivered_said : Call → ℕ
 delivered_said (Billing m delivered received x) = delivered
-delivered_said (Opening t l m) = 0
+delivered_said (Opening a m) = 0
 delivered_said (Repricing l) = 0
 delivered_said Closing = 0
 
 abbrev pub received_said : Call → ℕ
 received_said (Billing m delivered received x) = received
-received_said (Opening t l m) = 0
+received_said (Opening a m) = 0
 received_said (Repricing l) = 0
 received_said Closing = 0

@@ -14,7 +14,7 @@ ghost use Rattle.records.specs.Rows.{row_of};
 use account::ClosingAmounts;
 use billing::Bill;
 use hours::ByPeriod;
-use tariff::{Class, MOST_NAMEPLATES, PriceList, Rider, Terms};
+use tariff::{Agreement, Class, MOST_NAMEPLATES, PriceList, Rider, Terms};
 
 // Terms: rider, class, how many nameplates, eight places for them, demand limit, assisted. The places, here and of a record, are those of the
 // interface for C, and are counted from the first of these numbers.
@@ -73,8 +73,7 @@ pub const ROW: usize = 1 + 11 * 4 + LINES_LENGTH + 4 + 1;
 #[derive(Clone, Copy)]
 pub enum Call {
     Opening {
-        terms: Terms,
-        prices: PriceList,
+        agreement: Agreement,
         month: u32,
     },
     Repricing {
@@ -199,9 +198,12 @@ pub fn small_at(words: &[u64], place: usize) -> Option<u32>
 fn opening_at(words: &[u64]) -> Option<Call>
     ensures { result ≡ opening_read words.now }
 {
-    Some(Call::Opening {
+    let agreement = Agreement {
         terms: known_terms_at(words, TERMS_PLACE)?,
         prices: prices_at(words, PRICES_PLACE),
+    };
+    Some(Call::Opening {
+        agreement,
         month: small_at(words, FIRST_MONTH_PLACE)?,
     })
 }

@@ -5,7 +5,7 @@ ghost use Rattle.std.specs.Prelude.{◌≡◌, true, false, MatchResult};
 ghost use Rattle.refusals.specs.Table.{first_of, contents_rows, opening_row, repricing_row, billing_row, closing_row};
 ghost use Rattle.refusals.specs.Numbers.{number, number_of};
 
-use tariff::{PriceList, Terms};
+use tariff::{Agreement, PriceList};
 
 // The rows of the table, each under its number.
 #[derive(Clone, Copy, Debug, PartialEq, Eq)]
@@ -60,9 +60,10 @@ fn row(applies: bool, refusal: Refusal) -> Result<(), Refusal>
 
 // What an account holds: the rows of an opening between 3 and 7.
 #[tactic(auto, unfolding(crate::specs::Table::contents_rows))]
-pub fn contents_row(terms: Terms, prices: PriceList) -> Result<(), Refusal>
-    ensures { number_of result ≡ first_of (contents_rows terms prices) }
+pub fn contents_row(agreement: Agreement) -> Result<(), Refusal>
+    ensures { number_of result ≡ first_of (contents_rows agreement.terms agreement.prices) }
 {
+    let Agreement { terms, prices } = agreement;
     row(prices.is_refused(), Refusal::PriceList)?;
     row(terms.nameplates_refused(), Refusal::Nameplates)?;
     row(terms.capacity_refused(), Refusal::Capacity)?;
@@ -71,17 +72,12 @@ pub fn contents_row(terms: Terms, prices: PriceList) -> Result<(), Refusal>
 
 // Opening an account that is open already or not, and that can be used or not.
 #[tactic(auto, using(crate::proofs::Numbers::number_above), unfolding(crate::specs::Table::opening_row, crate::specs::Table::contents_rows))]
-pub fn opening_row(
-    condition: Condition,
-    terms: Terms,
-    prices: PriceList,
-    month: u32,
-) -> Result<(), Refusal>
-    ensures { number_of result ≡ opening_row condition.opened condition.unusable terms prices month }
+pub fn opening_row(condition: Condition, agreement: Agreement, month: u32) -> Result<(), Refusal>
+    ensures { number_of result ≡ opening_row condition.opened condition.unusable agreement.terms agreement.prices month }
 {
     row(condition.opened, Refusal::OpenAlready)?;
     row(condition.unusable, Refusal::Closed)?;
-    contents_row(terms, prices)?;
+    contents_row(agreement)?;
     row(calendar::LAST_MONTH < month, Refusal::Month)
 }
 

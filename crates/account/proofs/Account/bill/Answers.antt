@@ -54,7 +54,7 @@ returns-clause-number c = c.in_ok-billing_row-2.ensures ∙ asked (goal.at.retur
 
 pub returns-clause-bill : goal.returns-clause-bill
 returns-clause-bill c =
-    c.bill_from.ensures
+    (rw (c.agreement.ensures.terms, c.agreement.ensures.prices) at c.bill_from.ensures)
     ∙ bill_found
     _ _ _ _ _ _ _ _
     (c.fixed_schedule-schedule.ensures ∙ sym (schedule_is _))
