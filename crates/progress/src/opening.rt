@@ -60,16 +60,7 @@ impl Opening {
             }
             OpeningLine::Nameplates => {
                 self.terms.count = numbers.len() as u64;
-                self.terms.nameplates = [
-                    number,
-                    number_at(numbers, 1),
-                    number_at(numbers, 2),
-                    number_at(numbers, 3),
-                    number_at(numbers, 4),
-                    number_at(numbers, 5),
-                    number_at(numbers, 6),
-                    number_at(numbers, 7),
-                ];
+                self.terms.nameplates = std::array::from_fn(|i| number_at(numbers, i));
             }
             OpeningLine::Limit => self.terms.limit = number,
             OpeningLine::Assisted => self.terms.assisted = number == 1,
