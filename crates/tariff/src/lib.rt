@@ -59,6 +59,8 @@ pub const MOST_NAMEPLATES: usize = 8;
 // Terms of an account. The first places have its nameplates, as many as the count says; what stands past them is no nameplate. They are in W, and
 // so is the demand limit: the estimated largest demand of a home, the contract demand of a business. An assisted customer whose
 // total is at most 8,000 W pays no shortfall.
+// A count stands beside eight places, and no `ArrayVec` or slice in their stead: number 12 refuses counts that such a list couldn't have, as nine, and an
+// account keeps its terms by value as they came.
 #[derive(Clone, Copy)]
 pub struct Terms {
     pub rider: Rider,
