@@ -104,7 +104,7 @@ pub fn days_in(month: u32) -> u32
     COMMON_DAYS[(month % 12) as usize] + leap_day(month)
 }
 
-// The weekday of a month's first day: 0 is Monday, 6 Sunday. Days are counted from 1 March 1999, a Monday, so that a leap
+// The weekday of a month's first day: 0 is Monday, 6 Sunday, and not an enum, since the day of a change is reckoned from it. Days are counted from 1 March 1999, a Monday, so that a leap
 // day is the last day of its year; from March on, five months have 153 days.
 pub fn first_weekday(month: u32) -> u32
     ensures { result ≡ first_weekday month }

@@ -47,10 +47,10 @@ fn write_account(buffer: &mut [u64], account: Account)
         account.carried.discount,
         account.standing,
     ];
-    records::write_numbers(buffer, STAGE_PLACE, &first);
+    text::write_at(buffer, STAGE_PLACE, &first);
     records::write_terms(buffer, TERMS_PLACE, account.terms);
     records::write_prices(buffer, PRICES_PLACE, account.prices);
-    records::write_numbers(buffer, NEXT_PLACE, &rest);
+    text::write_at(buffer, NEXT_PLACE, &rest);
 }
 
 // How many calls of a list are answered, and how many rows of answers are written whole.
@@ -124,7 +124,7 @@ pub extern "C" fn kozempil_call(
         return 0;
     };
     let row = records::row_of(answered.answer);
-    records::write_numbers(answer, 0, &row);
+    text::write_at(answer, 0, &row);
     write_account(after, answered.account);
     1
 }
@@ -142,12 +142,12 @@ pub extern "C" fn kozempil_day_view(
     ensures { part.new ≡ sets part.old 0 (part_numbers (view_of delivered.entry received.entry month day number)) }
 {
     if registers::empty_view(delivered, received, month, day, number) {
-        records::write_numbers(part, 0, &[0, 0]);
+        text::write_at(part, 0, &[0, 0]);
         return;
     }
     let start = calendar::readings_through(month, day - 1);
     let count = calendar::day_length(month, day);
-    records::write_numbers(part, 0, &[start as u64, count as u64]);
+    text::write_at(part, 0, &[start as u64, count as u64]);
 }
 
 // How many readings a register of a month has.

@@ -132,7 +132,7 @@ pub fn run(
         let (given, more_received) = records::readings_taken(call.received(), received_left);
         let step = answer_call(account, call, taken, given);
         let row = records::row_of(step.answer);
-        records::write_numbers(answers, answered * records::ROW, &row);
+        text::write_at(answers, answered * records::ROW, &row);
         account = step.account;
         answered += 1;
         unread = more;

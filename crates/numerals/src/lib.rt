@@ -62,6 +62,7 @@ pub fn numbers_up_to<const N: usize>(text: &[u8]) -> Option<ArrayVec<u32, N>>
     ensures some { IfSome result (λ numbers. 0 < array_vec_len numbers) }
 {
     let mut numbers = ArrayVec::new();
+    // By what is left and not by `split`, with which no proof of this closed.
     let mut rest = text;
     while let Some(comma) = text::find(b',', rest) {
         numbers.try_push(number_in(&rest[..comma])?).ok()?;

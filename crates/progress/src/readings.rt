@@ -13,7 +13,8 @@ pub struct Run {
     pub received: u32,
 }
 
-// The readings stand at the front of two registers. Past them stands what was left there.
+// The readings stand at the front of two registers. Past them stands what was left there. One count serves for both: two `ArrayVec`s would each have one, and
+// contracts that say that they are equal.
 #[derive(Drop)]
 pub struct Readings {
     delivered: [u32; MOST_READINGS],

@@ -338,18 +338,6 @@ pub fn row_of(answer: Answer) -> [u64; ROW]
     ]
 }
 
-// Writes numbers from a place on; what doesn't fit is left out.
-#[tactic(auto, using(crate::proofs::Writing::copied, crate::proofs::Writing::none_written))]
-pub fn write_numbers(buffer: &mut [u64], start: usize, numbers: &[u64])
-    ensures { buffer.new ≡ sets buffer.old start numbers.now }
-{
-    if start < buffer.len() {
-        let room = buffer.len() - start;
-        let fit = numbers.len().min(room);
-        buffer[start..start + fit].copy_from_slice(&numbers[..fit]);
-    }
-}
-
 // Writes terms from a place on; what doesn't fit is left out.
 #[tactic(auto, unfolding(crate::specs::Sections::terms_numbers))]
 pub fn write_terms(buffer: &mut [u64], place: usize, terms: Terms)
@@ -371,7 +359,7 @@ pub fn write_terms(buffer: &mut [u64], place: usize, terms: Terms)
         terms.limit,
         u64::from(terms.assisted),
     ];
-    write_numbers(buffer, place, &numbers);
+    text::write_at(buffer, place, &numbers);
 }
 
 // Writes a price list from a place on; what doesn't fit is left out.
@@ -392,5 +380,5 @@ pub fn write_prices(buffer: &mut [u64], place: usize, prices: PriceList)
         prices.basic,
         prices.minimum,
     ];
-    write_numbers(buffer, place, &numbers);
+    text::write_at(buffer, place, &numbers);
 }

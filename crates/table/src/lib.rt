@@ -236,7 +236,8 @@ fn plain_value(numbers: &[u64; NUMBERS], k: usize) -> u64
     }
 }
 
-// The row of a refusal's reason, or of a stop's.
+// The row of a refusal's reason, or of a stop's. The number is one that a line shows, of any size, and no `Refusal`: that would first have to be made of it, by the
+// same match.
 #[tactic(auto, unfolding(crate::specs::Reasons::opening_row, crate::specs::Reasons::month_row))]
 fn row_of(kind: Kind, number: u64) -> Row
     ensures { row_number result ≡ row_by kind number }

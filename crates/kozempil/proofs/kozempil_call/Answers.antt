@@ -23,6 +23,6 @@ returns c =
     record {
       value = rw yes;
       answer_after = rw yes
-          (c.write_numbers.ensures ∙ ap (λ row. sets answer 0 row) (c.row_of-row.ensures ∙ ap row_of (answer_is at.account.now at.call.now at.delivered.now at.received.now c.in-Some.answered told)));
+          (c.write_at.ensures ∙ ap (λ row. sets answer 0 row) (c.row_of-row.ensures ∙ ap row_of (answer_is at.account.now at.call.now at.delivered.now at.received.now c.in-Some.answered told)));
       after_after = rw (yes, ← (account_is at.account.now at.call.now at.delivered.now at.received.now c.in-Some.answered told)) c.write_account.ensures;
     }

@@ -7,11 +7,11 @@ use Rattle.kozempil.proofs.write_account.Goals as goal
 
 pub returns : goal.returns
 returns c =
-    let stage : c.write_numbers.new.buffer ≡ sets c.args.buffer.now 0 (stage_code c.args.account.stage ∷ []) = search rules in
+    let stage : c.write_at.new.buffer ≡ sets c.args.buffer.now 0 (stage_code c.args.account.stage ∷ []) = search rules in
     row_written
     c.args.account
     _ _ _ _ _
     stage
     c.write_terms.ensures
     c.write_prices.ensures
-    (rw (← c.from.ensures) c.write_numbers-2.ensures)
+    (rw (← c.from.ensures) c.write_at-2.ensures)

@@ -28,8 +28,8 @@ loop-words-preserved c = advance
     c.readings_taken-in-Some.ensures.rest
     c.answer_call-step.ensures
     c.row_of-row.ensures
-    c.write_numbers.ensures
-    c.write_numbers.auto.buffer
+    c.write_at.ensures
+    c.write_at.auto.buffer
 
 pub returns : goal.returns
 returns c = ended c.loop-words.invariant (omega (arith, c.in_default.ensures.cases)) c.ran_to-2.ensures
