@@ -1,4 +1,4 @@
--- The codes of the interface for C: stages as numbers, and what a number is read as.
+-- Stages as numbers, which are the codes of the interface for C, and the stage of a number: of each but the first two codes the third.
 use Rattle.std.specs.Prelude.{cond, ℕ, eqb}
 use Rattle.account.specs.declared.Stage.{Stage}
 use Rattle.account.specs.declared.Stage.TheVariants.{Fresh, Open, Closed}

@@ -1,4 +1,4 @@
--- The codes of the interface for C: riders and classes as numbers, and what a number is read as.
+-- The codes of the interface for C for riders and classes, and how a code is read.
 use Rattle.std.specs.Prelude.{◌≡◌, cond, ℕ, ◌≤◌, ◌<◌, eqb, Result, MatchResult}
 use Rattle.tariff.specs.declared.Rider.{Rider}
 use Rattle.tariff.specs.declared.Rider.TheVariants.{Banked, Bridge}
@@ -6,6 +6,7 @@ use Rattle.tariff.specs.declared.Class.{Class}
 use Rattle.tariff.specs.declared.Class.TheVariants.{Home, Business}
 use Rattle.tariff.specs.declared.UnknownCode.{UnknownCode}
 
+-- Riders as numbers, and the rider of a number: of each but the first code the second.
 abbrev pub rider_code : Rider → ℕ
 rider_code Banked = 0
 rider_code Bridge = 1
@@ -13,6 +14,7 @@ rider_code Bridge = 1
 abbrev pub rider_at : ℕ → Rider
 rider_at n = cond (eqb n 0) Banked Bridge
 
+-- The same of classes.
 abbrev pub class_code : Class → ℕ
 class_code Home = 0
 class_code Business = 1
