@@ -1,7 +1,7 @@
-// Texts, as bytes; and how any items are written to a lent buffer.
+// Texts, as bytes; and how any items are read from a list and written to a lent buffer.
 #![tactic(auto)]
 
-ghost use Rattle.std.specs.Prelude.{◌≡◌, ◌<◌, length, IfSome, unwrap_or};
+ghost use Rattle.std.specs.Prelude.{◌≡◌, ◌<◌, length, IfSome, get_or, unwrap_or};
 ghost use Rattle.std.proofs.lemmas.List.Edits.{sets};
 ghost use Rattle.text.specs.Text.{place_of};
 
@@ -18,6 +18,13 @@ pub fn place_of(byte: u8, text: &[u8]) -> usize
     ensures { result ≡ place_of byte text.now }
 {
     find(byte, text).unwrap_or(text.len())
+}
+
+// The item at a place, or another one past the end.
+pub fn at_or<T: Copy>(items: &[T], place: usize, otherwise: T) -> T
+    ensures { result ≡ get_or items.now place otherwise }
+{
+    items.get(place).copied().unwrap_or(otherwise)
 }
 
 // Writes items to a buffer from a place on; what doesn't fit is left out.
