@@ -1,4 +1,5 @@
-// What a bill reads from a register, and the day view. Registers are lent and only read.
+// What a bill reads from a register, and the day view. Registers are lent and only read: delivered and received as two slices, here and above, which is
+// the form that document 01 names.
 #![tactic(auto)]
 
 ghost use Rattle.std.specs.Prelude.{◌≡◌, cond, ◌||◌, ◌+◌, ◌%◌, ◌<◌, ◌≤◌, ◌^◌, ℕ, eqb, length, slice_index};
@@ -14,7 +15,7 @@ use hours::{ByPeriod, DayHours, SCHEDULE_LENGTH};
 // The largest reading that is accepted, in Wh, beside the mark of a lost one.
 const READING_LIMIT: u32 = 1_000_000;
 
-// What a register holds in the place of a reading that is lost.
+// What a register holds in the place of a reading that is lost: a number among the readings, as they come from a caller in C.
 const LOST: u32 = u32::MAX;
 
 // The most Wh that a month's register comes to.
@@ -166,35 +167,23 @@ impl Roomy {
         }
     }
 
-    // The same where the schedule has this entry for both quarters. Most pairs are off-peak or discount, in long runs: these tests come first.
+    // The same where the schedule has this entry for both quarters. Most pairs are off-peak or discount, in long runs: these are asked first.
     fn add_same_entry(self, day: DayHours, entry: u8, pair: Pair) -> Count
         requires { pair.reading + pair.next ≤ reading_limit }
         ensures { AddedPair self.so_far (period_on_day day.critical entry) (period_on_day day.critical entry) pair.reading pair.next result }
     {
         let count = self.so_far;
-        if entry == hours::OFF_PEAK {
-            let sums = ByPeriod {
-                offpeak: count.sums.offpeak + pair.sum(),
-                ..count.sums
-            };
-            return Count {
-                sums,
-                last: pair.next,
-                ..count
-            };
+        let mut sums = count.sums;
+        match entry {
+            hours::OFF_PEAK => sums.offpeak += pair.sum(),
+            hours::DISCOUNT => sums.discount += pair.sum(),
+            _ => return self.add_at_once(hours::period_on(day, entry), pair),
         }
-        if entry == hours::DISCOUNT {
-            let sums = ByPeriod {
-                discount: count.sums.discount + pair.sum(),
-                ..count.sums
-            };
-            return Count {
-                sums,
-                last: pair.next,
-                ..count
-            };
+        Count {
+            sums,
+            last: pair.next,
+            ..count
         }
-        self.add_at_once(hours::period_on(day, entry), pair)
     }
 
     // The count with one pair more, from its entries of the schedule. For nearly all pairs one test serves for the mark and the limit of both readings,
@@ -208,20 +197,6 @@ impl Roomy {
         let period = hours::period_on(day, entry);
         let next_period = hours::period_on(day, next_entry);
         self.add_one_by_one(period, next_period, pair)
-    }
-}
-
-// Where the readings that start at a place of a day, and whose quarters follow each other, end: with the day, or where the clocks change. No pair
-// is parted.
-fn stretch_end(clock: Clock, length: usize, place: usize) -> usize
-    requires { (place < length) × (8 ≤ length) × (length % 2 ≡ 0) }
-    ensures upper_bound { (result ≤ length) × (result % 2 ≡ 0) }
-    ensures follows { Follows clock place result }
-{
-    match clock {
-        Clock::Unchanged => length,
-        _ if calendar::CHANGE_QUARTER <= place => length,
-        _ => calendar::CHANGE_QUARTER,
     }
 }
 
@@ -270,21 +245,20 @@ impl Day<'_> {
         so_far
     }
 
-    // The count with the readings of the day. It goes by stretches, nearly always one, since a test for each reading made a bill a third slower; they have no one
-    // length, so this stays a `while`.
+    // The count with the readings of the day. On one on which the clocks change, the quarters follow each other up to the change, and after it; no pair is
+    // parted there.
     fn count(self, count: Count) -> Count
         requires { Counted self.schedule.now self.month self.critical_days self.register.now self.before count }
         ensures { Counted self.entry.schedule.now self.entry.month self.entry.critical_days self.entry.register.now (self.entry.before + 1) result }
     {
         let length = calendar::length_by(self.clock);
-        let mut so_far = count;
-        let mut from = 0;
-        while from < length {
-            let to = stretch_end(self.clock, length, from);
-            so_far = self.count_stretch(so_far, from, to);
-            from = to;
+        match self.clock {
+            Clock::Unchanged => self.count_stretch(count, 0, length),
+            _ => {
+                let earlier = self.count_stretch(count, 0, calendar::CHANGE_QUARTER);
+                self.count_stretch(earlier, calendar::CHANGE_QUARTER, length)
+            }
         }
-        so_far
     }
 }
 

@@ -1,33 +1,52 @@
--- `registers::Day::count` counts stretch after stretch: `Counting` has the start and the end.
-use mathlib.Core.Path.{◌≡◌, ◌∙◌}
+-- `registers::Day::count` counts one stretch, or those before and after the change of the clocks: `Counting` has the start and the end.
+use mathlib.Core.Path.{◌≡◌, refl, ◌∙◌}
 use Prim.Native.Nat.{◌+◌}
 use native.Mathlib.Omega.{arith}
 use Rattle.calendar.specs.Calendar.{day_length}
-use Rattle.calendar.proofs.Laws.{length_by-ge, length_by-even, day_length-is}
+use Rattle.calendar.proofs.Laws.{early_quarter, late_quarter, unchanged_quarter, length_by-ge, length_by-even, day_length-is}
 use Rattle.registers.proofs.Counting.{day_start, day_end}
 use Rattle.registers.proofs.Day.count.Goals as goal
+use Rattle.registers.proofs.Day.count.Goals.{After-length_by-length}
 
-pub loop-from-init : goal.loop-from-init
-loop-from-init c = (omega arith, omega arith, day_start _ _ _ _ _ _ c.requires)
+-- The day's length.
+whole : (c : After-length_by-length) → c.length_by-length.result ≡ day_length c.args.self.month (c.args.self.before + 1)
+whole c = c.length_by-length.ensures ∙ day_length-is _ _ c.args.self.by_clock
 
-pub stretch_end-to-requires : goal.stretch_end-to-requires
-stretch_end-to-requires c = (omega arith, omega (arith, c.length_by-length.ensures, length_by-ge c.args.self.clock), rw c.length_by-length.ensures (length_by-even c.args.self.clock))
-
-pub count_stretch-so_far-requires : goal.count_stretch-so_far-requires
-count_stretch-so_far-requires c = record {
-  day_counted = c.loop-from.invariant.2;
-  to_bound = omega (arith, c.stretch_end-to.ensures.upper_bound, c.length_by-length.ensures ∙ day_length-is _ _ c.args.self.by_clock);
-  follows = c.stretch_end-to.ensures.follows;
-  even = (c.loop-from.invariant.1, c.stretch_end-to.ensures.upper_bound.1);
+pub count_stretch-requires : goal.count_stretch-requires
+count_stretch-requires c = record {
+  day_counted = day_start _ _ _ _ _ _ c.requires;
+  to_bound = omega (arith, whole (goal.at.count_stretch-requires c).After-length_by-length);
+  follows = record {
+    some = omega (arith, c.length_by-length.ensures, length_by-ge c.args.self.clock);
+    each = λ p l h. rw (c.in-Unchanged.is, unchanged_quarter p, unchanged_quarter 0) (omega arith);
+  };
+  even = (refl, rw c.length_by-length.ensures (length_by-even c.args.self.clock));
 }
 
-pub loop-from-smaller : goal.loop-from-smaller
-loop-from-smaller c = omega (arith, c.stretch_end-to.ensures.upper_bound.0, c.stretch_end-to.ensures.follows.some)
+pub count_stretch-earlier-requires : goal.count_stretch-earlier-requires
+count_stretch-earlier-requires c = record {
+  day_counted = day_start _ _ _ _ _ _ c.requires;
+  to_bound = omega (arith, whole (goal.at.count_stretch-earlier-requires c).After-length_by-length, c.length_by-length.ensures, length_by-ge c.args.self.clock);
+  follows = record {
+    some = omega arith;
+    each = λ p l h. rw (early_quarter _ p h, early_quarter _ 0 (omega arith)) (omega arith);
+  };
+  even = (refl, refl);
+}
 
-pub loop-from-preserved : goal.loop-from-preserved
-loop-from-preserved c = (c.stretch_end-to.ensures.upper_bound.0, c.stretch_end-to.ensures.upper_bound.1, c.count_stretch-so_far.ensures)
+pub count_stretch-requires-in_default : goal.count_stretch-requires-in_default
+count_stretch-requires-in_default c = record {
+  day_counted = c.count_stretch-earlier.ensures;
+  to_bound = omega (arith, whole (goal.at.count_stretch-requires-in_default c).After-length_by-length);
+  follows = record {
+    some = omega (arith, c.length_by-length.ensures, length_by-ge c.args.self.clock);
+    each = λ p l h. late_quarter _ _ p (omega arith) l;
+  };
+  even = (refl, rw c.length_by-length.ensures (length_by-even c.args.self.clock));
+}
 
-pub returns : goal.returns
-returns c = let e : c.loop-from.from ≡ day_length c.args.self.month (c.args.self.before + 1) =
-    omega (arith, c.length_by-length.ensures ∙ day_length-is _ _ c.args.self.by_clock) in
-    day_end _ _ _ _ _ _ (rw e at c.loop-from.invariant.2)
+pub returns-in-Unchanged : goal.returns-in-Unchanged
+returns-in-Unchanged c = day_end _ _ _ _ _ _ (rw (whole (goal.at.returns-in-Unchanged c).After-length_by-length) at c.count_stretch.ensures)
+
+pub returns-in_default : goal.returns-in_default
+returns-in_default c = day_end _ _ _ _ _ _ (rw (whole (goal.at.returns-in_default c).After-length_by-length) at c.count_stretch-in_default.ensures)

@@ -5,8 +5,8 @@ use Rattle.hours.proofs.Laws.{period_stays}
 use Rattle.registers.proofs.Counting.{neither_above}
 use Rattle.registers.proofs.Roomy.add_same_entry.Goals as goal
 
-pub returns-then-entry-eq-OFF_PEAK : goal.returns-then-entry-eq-OFF_PEAK
-returns-then-entry-eq-OFF_PEAK c = rw (c.if-entry-eq-OFF_PEAK.true, period_stays c.args.day.critical 2 (omega arith))
+pub returns-in-2 : goal.returns-in-2
+returns-in-2 c = rw (c.in-2.is, period_stays c.args.day.critical 2 (omega arith))
     (record {
       critical = omega arith;
       onpeak = omega arith;
@@ -17,8 +17,8 @@ returns-then-entry-eq-OFF_PEAK c = rw (c.if-entry-eq-OFF_PEAK.true, period_stays
       last = refl;
     })
 
-pub returns-then-entry-eq-DISCOUNT : goal.returns-then-entry-eq-DISCOUNT
-returns-then-entry-eq-DISCOUNT c = rw (c.if-entry-eq-DISCOUNT.true, period_stays c.args.day.critical 3 (omega arith))
+pub returns-in-3 : goal.returns-in-3
+returns-in-3 c = rw (c.in-3.is, period_stays c.args.day.critical 3 (omega arith))
     (record {
       critical = omega arith;
       onpeak = omega arith;
@@ -28,6 +28,3 @@ returns-then-entry-eq-DISCOUNT c = rw (c.if-entry-eq-DISCOUNT.true, period_stays
       above = neither_above _ _ _ c.requires;
       last = refl;
     })
-
-pub returns : goal.returns
-returns c = rw (← c.period_on.ensures) c.add_at_once.ensures
