@@ -1,4 +1,4 @@
-"""Reads Rattle and antt: the functions, constants and modules of a crate, and the text of an antt file without its comments.
+"""Reads Rattle and antt: the functions, constants (statics too) and modules of a crate, and the text of an antt file without its comments.
 
 Rattle's comments nest, and the braces of a clause (`ensures`, `requires`, `ghost`) hold antt, which has comments and texts of its own. What this
 reader does not know it refuses with `Unreadable`, so that no script passes over a function that it cannot see.
@@ -199,7 +199,7 @@ class Reader:
             public |= self.now().text != "("
             if self.now().text == "(":
                 self.group()
-        if self.now().text == "const" and self.tokens[self.at + 1].text not in ("fn", "extern", "unsafe"):
+        if self.now().text == "static" or self.now().text == "const" and self.tokens[self.at + 1].text not in ("fn", "extern", "unsafe"):
             return self.constant(path, start)
         while self.now().text in ("const", "unsafe", "extern") or self.now().kind == "literal":
             self.next()
@@ -223,7 +223,7 @@ class Reader:
             else:
                 self.until(";")
                 self.next()
-        elif word in ("use", "type", "static"):
+        elif word in ("use", "type"):
             self.until(";")
             self.next()
         elif not word.startswith("ghost"):

@@ -325,6 +325,10 @@ class Refused(Repository):
         self.assertEqual(refused.reached("sums", [("src/lib.rt", "    (x + 7)", "    /* } */ (x + 7)")]), set())
         self.assertEqual(refused.reached("sums", [("src/lib.rt", "mod more", "pub mod more")]), {""})
 
+    def test_a_static_reaches_its_users(self):
+        self.change("crates/sums/src/lib.rt", "const ONE: u32", "static ONE: u32")
+        self.assertEqual(refused.reached("sums", [("src/lib.rt", "ONE: u32 = 1", "ONE: u32 = 2")]), {"double"})
+
     def test_the_fact_must_fail_by_itself(self):
         for facts in ([], [("double/Answers", "returns", "")], [("plain/Answers", "returns", f"`x` {refused.FOLLOWS}")]):
             shutil.rmtree("cache", ignore_errors=True)

@@ -68,29 +68,6 @@ pub struct DayHours {
     pub critical: bool,
 }
 
-// Word w of a packed schedule. It stays a match, which for a constant schedule becomes a table in read-only memory, as the rule of fixed memory asks; for `words[w]`
-// instructions would store all words on the stack first.
-fn word_at(words: &[u64; PACKED_LENGTH], w: usize) -> u64
-    requires { w < 12 }
-    ensures { result ≡ get_or words.now w 0 }
-{
-    match w {
-        0 => words[0],
-        1 => words[1],
-        2 => words[2],
-        3 => words[3],
-        4 => words[4],
-        5 => words[5],
-        6 => words[6],
-        7 => words[7],
-        8 => words[8],
-        9 => words[9],
-        10 => words[10],
-        11 => words[11],
-        _ => 0,
-    }
-}
-
 // Byte b of a packed schedule.
 #[tactic(auto, unfolding(crate::specs::Packing::byte_at))]
 fn byte_at(words: &[u64; PACKED_LENGTH], b: usize) -> u8
@@ -98,7 +75,7 @@ fn byte_at(words: &[u64; PACKED_LENGTH], b: usize) -> u8
     ensures { result ≡ byte_at words.now b }
 {
     let place = (b % 8) as u32;
-    ((word_at(words, b / 8) >> (8 * place)) % 256) as u8
+    ((words[b / 8] >> (8 * place)) % 256) as u8
 }
 
 // Entry k of a byte.
@@ -133,7 +110,7 @@ fn all_entries(schedule: &[u8]) -> bool
 {
     schedule
         .iter()
-        .all(|entry| ON_PEAK <= *entry && *entry <= DISCOUNT)
+        .all(|entry| (ON_PEAK..=DISCOUNT).contains(entry))
 }
 
 // Whether a schedule is refused (number 15).

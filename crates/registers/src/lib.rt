@@ -201,7 +201,7 @@ impl Roomy {
 }
 
 // A day of a month's register, lent with the schedule that says its hours: the days of the month before it, the place where its readings start, and what
-// the clocks do on it.
+// the clocks do on it. The place is no part of the register of its own, since the facts below, and the gaps that are filled from the days before, are about the whole.
 #[derive(Clone, Copy)]
 struct Day<'a> {
     schedule: &'a [u8; SCHEDULE_LENGTH],
@@ -314,7 +314,8 @@ pub fn tally_of(
     })
 }
 
-// Whether the day view is empty: no such month, day or register, or a register of another length than the month's.
+// Whether the day view is empty: no such month, day or register, or a register of another length than the month's. The register is named by any number, as a
+// caller in C names it, and 2 and above name none: a type of two would ask more of callers.
 #[tactic(auto, unfolding(crate::specs::DayView::empty_view, crate::specs::Registers::length_refused))]
 pub fn empty_view(delivered: &[u32], received: &[u32], month: u32, day: u32, number: u32) -> bool
     ensures { result ≡ empty_view delivered.now received.now month day number }
