@@ -7,7 +7,7 @@ use native.Mathlib.Omega.{arith}
 use borrow.Author.Tests.{ltb-false, eqb-true, not-false}
 use lib.Dec.{eqb, ltb}
 use Rattle.calendar.specs.Calendar.{last_month}
-use Rattle.calendar.proofs.Booleans.{or_neither}
+use Rattle.std.proofs.lemmas.Bool.{or_parts}
 use Rattle.hours.specs.CriticalDays.{critical_refused}
 use Rattle.registers.specs.Registers.{length_refused, reading_refused}
 use Rattle.tariff.specs.declared.Terms.{Terms}
@@ -42,9 +42,9 @@ pub record Arises (a : Account) : Type 0 where
 pub arises : (a : Account) → cant_arise a ≡ false → Arises a
 unfolding cant_arise
 arises a e =
-    let (front, _) = or_neither _ _ e in
-    let (amounts, next) = or_neither (some_over carried_limit (amounts_of a.carried) || ltb standing_limit a.standing) (ltb highest_next a.next) front in
-    let (carried, standing) = or_neither (some_over carried_limit (amounts_of a.carried)) (ltb standing_limit a.standing) amounts in
+    let (front, _) = or_parts _ _ e in
+    let (amounts, next) = or_parts (some_over carried_limit (amounts_of a.carried) || ltb standing_limit a.standing) (ltb highest_next a.next) front in
+    let (carried, standing) = or_parts (some_over carried_limit (amounts_of a.carried)) (ltb standing_limit a.standing) amounts in
     record { carried = carried; standing = ltb-false _ _ standing; next = ltb-false _ _ next }
 
 -- What an open account that can arise holds.
@@ -65,10 +65,10 @@ pub record Usable (a : Account) : Type 0 where
 pub usable : (a : Account) → is_fresh a.stage ≡ false → unusable a ≡ false → Usable a
 unfolding unusable cant_arise
 usable a f u =
-    let (closed, possible) = or_neither (is_closed a.stage) (cant_arise a) u in
+    let (closed, possible) = or_parts (is_closed a.stage) (cant_arise a) u in
     let stage : a.stage ≡ Open = open_stage a.stage f closed in
     let (_, held) =
-    or_neither
+    or_parts
     (some_over carried_limit (amounts_of a.carried) || ltb standing_limit a.standing || ltb highest_next a.next)
     _
     possible in
@@ -93,7 +93,7 @@ opening_accepted a t l m e =
     let (holds, e7) = contents_passed t l _ e4 in
     let (month, _) = pass (ltb last_month m) 6 0 e7 in
     record {
-      stage = fresh_stage a.stage not_open (or_neither (is_closed a.stage) (cant_arise a) able).0;
+      stage = fresh_stage a.stage not_open (or_parts (is_closed a.stage) (cant_arise a) able).0;
       holds = holds;
       month = ltb-false _ _ month;
     }
@@ -128,8 +128,8 @@ billing_accepted a m delivered received x e =
     let (lengths, e9) = pass (length_refused m delivered || length_refused m received) 7 _ e8 in
     let (_, e10) = pass (critical_refused m x) 8 _ e9 in
     let (readings, _) = pass (reading_refused delivered || reading_refused received) 9 _ e10 in
-    let (dl, rl) = or_neither (length_refused m delivered) (length_refused m received) lengths in
-    let (dr, rr) = or_neither (reading_refused delivered) (reading_refused received) readings in
+    let (dl, rl) = or_parts (length_refused m delivered) (length_refused m received) lengths in
+    let (dr, rr) = or_parts (reading_refused delivered) (reading_refused received) readings in
     record {
       account = usable a f u;
       month = eqb-true _ _ (not-false _ month);

@@ -1,5 +1,4 @@
 pub mod Below
-pub mod Booleans
 pub mod Laws
 mod Lengths
 pub mod Weekday

@@ -11,7 +11,7 @@ use lib.ListN.{length, get_or, take}
 use lib.Pow.{shr-shr}
 use lib.Seq.{take-suc, take_all}
 use Rattle.std.specs.List.{list_all}
-use Rattle.calendar.proofs.Booleans.{and_both}
+use Rattle.std.proofs.lemmas.Bool.{and_parts}
 use Rattle.hours.specs.Hours.{fixed_schedule, windows, window_period, is_on_peak}
 use Rattle.hours.specs.Packing.{byte_at, entry_of, unpacked}
 use Rattle.hours.specs.Schedules.{schedule_length, is_entry, all_entries, schedule_refused, word_from, words_from, packed, schedule_in}
@@ -27,9 +27,9 @@ pub entry_within : (s : List ℕ) (i : ℕ) → all_entries s ≡ true → get_o
 unfolding all_entries
 entry_within [] i e = omega arith
 entry_within (p ∷ s) zero e =
-    let (low, high) = and_both (leb 1 p) (leb p 3) (and_both (is_entry p) (all_entries s) e).0 in
+    let (low, high) = and_parts (leb 1 p) (leb p 3) (and_parts (is_entry p) (all_entries s) e).0 in
     leb-true p 3 high
-entry_within (p ∷ s) (suc i) e = entry_within s i (and_both (is_entry p) (all_entries s) e).1
+entry_within (p ∷ s) (suc i) e = entry_within s i (and_parts (is_entry p) (all_entries s) e).1
 
 -- So n entries have 2 × n bits.
 pub word_below : (s : List ℕ) (i n : ℕ) → all_entries s ≡ true → word_from s i n < 4 ^ n
@@ -138,7 +138,7 @@ word_more s first (suc k) word entry h i e f =
 pub accepted_schedule : (s : List ℕ) → schedule_refused s ≡ false → (length s ≡ schedule_length) × (all_entries s ≡ true)
 unfolding schedule_refused
 accepted_schedule s e =
-    let (long, good) = and_both (eqb (length s) schedule_length) (all_entries s) (not-false _ e) in
+    let (long, good) = and_parts (eqb (length s) schedule_length) (all_entries s) (not-false _ e) in
     (eqb-true _ _ long, good)
 
 -- What is packed is found again.

@@ -9,7 +9,7 @@ use borrow.Author.Tests.{eq-eqb, eqb-true, not-false}
 use lib.Dec.{eqb}
 use lib.ListN.{length, take, drop, length-append, length-drop, take-append-drop}
 use lib.Seq.{take_all, drop-drop, length-take-le}
-use Rattle.calendar.proofs.Booleans.{and_both}
+use Rattle.std.proofs.lemmas.Bool.{and_parts}
 use Rattle.hours.specs.Schedules.{schedule_length, is_entry, all_entries, schedule_refused}
 use Rattle.text.specs.Text.{lines_from}
 use Rattle.text.proofs.Laws.{Plain, line_first, line_last}
@@ -36,7 +36,7 @@ given_entries (key ∷ keys) [] e = absurd (false≢true e)
 given_entries (key ∷ keys) (l ∷ ls) e =
     let xs = keyed key periods_in l in
     let rest = all_given (readers keys) ls in
-    let both = and_both (not (eqb (length xs) 0)) (all_good (readers keys) ls) e in
+    let both = and_parts (not (eqb (length xs) 0)) (all_good (readers keys) ls) e in
     let row = keyed_row key l both.0 in
     let more = given_entries keys ls both.1 in (
       length-append xs rest ∙ rw (row.0, more.0) (omega arith),
@@ -58,13 +58,13 @@ loaded_is_accepted text table e = by (eqb (length table) 384 && good) refl e
         → not (eqb (length (cond (not t) table (all_given schedule_lines lines))) 384 && all_entries (cond (not t) table (all_given schedule_lines lines))) ≡ false
     by false p e = absurd (omega (arith, e))
     by true p e =
-        let is = given_entries four_keys lines (and_both (eqb (length table) 384) good p).1 in
+        let is = given_entries four_keys lines (and_parts (eqb (length table) 384) good p).1 in
         rw (eq-eqb (length (all_given schedule_lines lines)) 384 is.0, is.1)
 
 -- 96 entries of a schedule.
 entries_part : (n : ℕ) (s : List ℕ) → all_entries s ≡ true → (all_entries (take n s) ≡ true) × (all_entries (drop n s) ≡ true)
 entries_part n s h =
-    and_both (all_entries (take n s)) (all_entries (drop n s)) (sym (entries_append (take n s) (drop n s)) ∙ rw (take-append-drop n s) h)
+    and_parts (all_entries (take n s)) (all_entries (drop n s)) (sym (entries_append (take n s) (drop n s)) ∙ rw (take-append-drop n s) h)
 
 full : (n : ℕ) (s : List ℕ) → all_entries s ≡ true → n + 96 ≤ length s → Full (take 96 (drop n s))
 full n s h k = (length-take-le 96 (drop n s) (omega (arith, length-drop n s)), (entries_part 96 (drop n s) (entries_part n s h).1).0)
@@ -81,7 +81,7 @@ parts s h =
 sound : (s : List ℕ) → schedule_refused s ≡ false → (length s ≡ 384) × (all_entries s ≡ true)
 unfolding schedule_refused
 sound s h =
-    let both = and_both (eqb (length s) 384) (all_entries s) (not-false _ h) in
+    let both = and_parts (eqb (length s) 384) (all_entries s) (not-false _ h) in
     (eqb-true (length s) 384 both.0, both.1)
 
 written : (s table end : List ℕ) → schedule_refused s ≡ false → length table ≡ schedule_length
@@ -124,4 +124,4 @@ loaded_is_written text table e = by (eqb (length table) 384 && good) refl e
     by : (t : Bool) → (eqb (length table) 384 && good) ≡ t → ◌≡◌ {A = ℕ} (cond (not t) 15 0) 0
         → (text ≡ text_of (cond (not t) table given)) ⊎ (text ≡ text_of (cond (not t) table given) ++ newline)
     by false p e = absurd (omega (arith, e))
-    by true p e = text_there text (and_both (eqb (length table) 384) good p).1
+    by true p e = text_there text (and_parts (eqb (length table) 384) good p).1

@@ -10,7 +10,7 @@ use lib.Dec.{eqb, leb}
 use lib.ListN.{length, set, get_or, take, drop, length-map, drop_of_length-le}
 use lib.Seq.{drop-cons, take-suc, take-suc-set}
 use Rattle.std.proofs.lemmas.List.{map-append}
-use Rattle.calendar.proofs.Booleans.{and_both}
+use Rattle.std.proofs.lemmas.Bool.{and_parts}
 use Rattle.hours.specs.Schedules.{is_entry, all_entries}
 use Rattle.grammar.specs.Grammar.{keyed}
 use Rattle.grammar.proofs.Sizes.{keyed_either}
@@ -66,7 +66,7 @@ periods_good l h = rw (eq-eqb (length l) 96 h) (by (all_period_digits l))
 -- A digit of a period gives an entry of a schedule.
 digit_entry : (b : ℕ) → is_period_digit b ≡ true → is_entry (b - 48) ≡ true
 digit_entry b e =
-    let both = and_both (leb 49 b) (leb b 51) e in
+    let both = and_parts (leb 49 b) (leb b 51) e in
     let low = leb-true 49 b both.0 in
     let high = leb-true b 51 both.1 in
     rw (le-leb 1 (b - 48) (omega arith), le-leb (b - 48) 3 (omega arith))
@@ -75,7 +75,7 @@ digits_entries : (l : List ℕ) → all_period_digits l ≡ true → all_entries
 unfolding all_period_digits all_entries
 digits_entries [] e = refl
 digits_entries (b ∷ l) e =
-    let both = and_both (is_period_digit b) (all_period_digits l) e in
+    let both = and_parts (is_period_digit b) (all_period_digits l) e in
     rw (digit_entry b both.0, digits_entries l both.1)
 
 -- What a good line gives: 96 entries.

@@ -8,7 +8,7 @@ use borrow.Author.Tests.{eq-eqb, ne_eqb, le-leb, leb-true}
 use lib.Dec.{leb}
 use lib.ListN.{length, length-append, length-map}
 use lib.Seq.{drop-append_seam}
-use Rattle.calendar.proofs.Booleans.{and_both}
+use Rattle.std.proofs.lemmas.Bool.{and_parts}
 use Rattle.hours.specs.Schedules.{is_entry, all_entries}
 use Rattle.text.specs.Text.{bytes_of, place_of, lines_from}
 use Rattle.text.proofs.Laws.{Plain, plain_append, line_first}
@@ -26,7 +26,7 @@ four_lines a b c d end p q r e = simp append_assoc (rw (line_first a _ p, line_f
 -- Entries as digits, and back.
 entry_digit : (p : ℕ) → is_entry p ≡ true → is_period_digit (p + 48) ≡ true
 entry_digit p e =
-    let both = and_both (leb 1 p) (leb p 3) e in
+    let both = and_parts (leb 1 p) (leb p 3) e in
     let low = leb-true 1 p both.0 in
     let high = leb-true p 3 both.1 in
     rw (le-leb 49 (p + 48) (omega arith), le-leb (p + 48) 51 (omega arith))
@@ -35,7 +35,7 @@ entries_digits : (e : List ℕ) → all_entries e ≡ true → all_period_digits
 unfolding all_entries all_period_digits
 entries_digits [] h = refl
 entries_digits (p ∷ e) h =
-    let both = and_both (is_entry p) (all_entries e) h in
+    let both = and_parts (is_entry p) (all_entries e) h in
     rw (entry_digit p both.0, entries_digits e both.1)
 
 digits_back : (e : List ℕ) → map (λ b. b - 48) (map (λ p. p + 48) e) ≡ e

@@ -9,7 +9,7 @@ use borrow.Author.Tests.{ne_eqb, eqb-true, leb-true}
 use lib.Dec.{eqb, leb}
 use lib.ListN.{length, take, drop, length-append}
 use lib.Seq.{take-append_seam, take_at, drop_at, drop-drop}
-use Rattle.calendar.proofs.Booleans.{and_both}
+use Rattle.std.proofs.lemmas.Bool.{and_parts}
 use Rattle.text.specs.Text.{bytes_of, lines_from}
 use Rattle.grammar.specs.Grammar.{begins_with, keyed}
 use Rattle.loading.specs.Loading.{is_period_digit, all_period_digits, periods_in, schedule_lines, all_good, all_given}
@@ -43,14 +43,14 @@ lines_end l (b ∷ text) = by (eqb b 10) refl (lines_end [] text) (lines_end (l 
 -- Digits of periods are written as they were read.
 digit_there : (b : ℕ) → is_period_digit b ≡ true → b - 48 + 48 ≡ b
 digit_there b e =
-    let low = leb-true 49 b (and_both (leb 49 b) (leb b 51) e).0 in
+    let low = leb-true 49 b (and_parts (leb 49 b) (leb b 51) e).0 in
     omega arith
 
 digits_there : (l : List ℕ) → all_period_digits l ≡ true → map (λ p. p + 48) (map (λ b. b - 48) l) ≡ l
 unfolding all_period_digits
 digits_there [] e = refl
 digits_there (b ∷ l) e =
-    let both = and_both (is_period_digit b) (all_period_digits l) e in
+    let both = and_parts (is_period_digit b) (all_period_digits l) e in
     rw (digit_there b both.0, digits_there l both.1)
 
 periods_there : (l : List ℕ) → not (eqb (length (periods_in l)) 0) ≡ true → map (λ p. p + 48) (periods_in l) ≡ l
@@ -59,7 +59,7 @@ periods_there l = by (eqb (length l) 96 && all_period_digits l) refl
   where
     by : (t : Bool) → (eqb (length l) 96 && all_period_digits l) ≡ t → not (eqb (length (cond t (map (λ b. b - 48) l) [])) 0) ≡ true
         → map (λ p. p + 48) (cond t (map (λ b. b - 48) l) []) ≡ l
-    by true p e = digits_there l (and_both (eqb (length l) 96) (all_period_digits l) p).1
+    by true p e = digits_there l (and_parts (eqb (length l) 96) (all_period_digits l) p).1
     by false p e = absurd (false≢true e)
 
 begins_key : (key l : List ℕ) → begins_with key l ≡ true → key ++ drop (length key) l ≡ l
@@ -67,7 +67,7 @@ unfolding begins_with
 begins_key [] l e = refl
 begins_key (b ∷ key) [] e = absurd (false≢true e)
 begins_key (b ∷ key) (x ∷ l) e =
-    let both = and_both (eqb b x) (begins_with key l) e in
+    let both = and_parts (eqb b x) (begins_with key l) e in
     rw (begins_key key l both.1, eqb-true b x both.0)
 
 -- A good line is written with what it gives.
@@ -100,7 +100,7 @@ good_lines (key ∷ keys) [] e = absurd (false≢true e)
 good_lines (key ∷ keys) (l ∷ ls) e =
     let xs = keyed key periods_in l in
     let rest = all_given (readers keys) ls in
-    let both = and_both (not (eqb (length xs) 0)) (all_good (readers keys) ls) e in
+    let both = and_parts (not (eqb (length xs) 0)) (all_good (readers keys) ls) e in
     let long = (keyed_row key l both.0).0 in
     rw (take_at xs rest 96 long, drop_at xs rest 96 long, line_there key l both.0, good_lines keys ls both.1)
 

@@ -8,7 +8,7 @@ use native.Mathlib.Omega.{arith}
 use borrow.Author.Tests.{eqb-true, leb-true}
 use lib.Dec.{eqb, leb, ltb}
 use lib.ListN.{length}
-use Rattle.calendar.proofs.Booleans.{and_both}
+use Rattle.std.proofs.lemmas.Bool.{and_parts}
 use Rattle.numerals.specs.Numerals.{all_digits, value_of, is_number, number_in, is_month, month_in}
 use Rattle.numerals.specs.Numerals.{on_first, parts_of, all_numbers, numbers_in, numbers_up_to}
 use Rattle.numerals.proofs.Months.{month_length_lem}
@@ -46,9 +46,9 @@ month_few l = one_few (is_month l) _
 number_digits : (l : List ℕ) → is_number l ≡ true → length l ≤ 10
 unfolding is_number
 number_digits l e =
-    let (e, _) = and_both (leb 1 (length l) && leb (length l) 10 && all_digits l) (ltb (value_of l) (2 ^ 32)) e in
-    let (e, _) = and_both (leb 1 (length l) && leb (length l) 10) (all_digits l) e in
-    leb-true (length l) 10 (and_both (leb 1 (length l)) (leb (length l) 10) e).1
+    let (e, _) = and_parts (leb 1 (length l) && leb (length l) 10 && all_digits l) (ltb (value_of l) (2 ^ 32)) e in
+    let (e, _) = and_parts (leb 1 (length l) && leb (length l) 10) (all_digits l) e in
+    leb-true (length l) 10 (and_parts (leb 1 (length l)) (leb (length l) 10) e).1
 
 -- Numbers with commas between them: the bytes of the parts and one more for each are those of the text and one more.
 abbrev spread : List (List ℕ) → ℕ
@@ -72,7 +72,7 @@ all_spread : (ps : List (List ℕ)) → all_numbers ps ≡ true → spread ps �
 unfolding all_numbers
 all_spread [] e = omega arith
 all_spread (p ∷ ps) e =
-    let (here, next) = and_both (is_number p) (all_numbers ps) e in
+    let (here, next) = and_parts (is_number p) (all_numbers ps) e in
     omega (arith, number_digits p here, all_spread ps next)
 
 pub up_to_short : (n : ℕ) → Short (11 * n - 1) (numbers_up_to n)

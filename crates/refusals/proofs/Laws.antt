@@ -6,7 +6,7 @@ use Prim.Native.Nat.{ℕ, zero, suc, ◌<◌}
 use native.Mathlib.Omega.{arith}
 use borrow.Author.Tests.{eq-eqb, ne_eqb}
 use lib.Dec.{eqb}
-use Rattle.calendar.proofs.Booleans.{or_neither}
+use Rattle.std.proofs.lemmas.Bool.{or_parts}
 use Rattle.tariff.specs.declared.Terms.{Terms}
 use Rattle.tariff.specs.declared.PriceList.{PriceList}
 use Rattle.tariff.specs.Tariff.{prices_refused, nameplates_refused, capacity_refused, bridge_refused}
@@ -61,10 +61,10 @@ module _ (t : Terms) (l : PriceList) where
   pub contents_hold : some_applies (contents_rows t l) ≡ false → Contents t l
   unfolding contents_rows
   contents_hold e =
-      let (prices, e12) = or_neither (prices_refused l) _ e in
-      let (nameplates, e5) = or_neither (nameplates_refused t) _ e12 in
-      let (capacity, e6) = or_neither (capacity_refused t) _ e5 in
-      let (bridge, _) = or_neither (bridge_refused t) _ e6 in
+      let (prices, e12) = or_parts (prices_refused l) _ e in
+      let (nameplates, e5) = or_parts (nameplates_refused t) _ e12 in
+      let (capacity, e6) = or_parts (capacity_refused t) _ e5 in
+      let (bridge, _) = or_parts (bridge_refused t) _ e6 in
       record { prices = prices; nameplates = nameplates; capacity = capacity; bridge = bridge }
 
   pub contents_free : Contents t l → some_applies (contents_rows t l) ≡ false

@@ -11,7 +11,7 @@ use borrow.Author.Tests.{eq-eqb, ne_eqb, le-ltb, ltb-false, leb-true, leb-false}
 use lib.Dec.{eqb, leb, ltb}
 use lib.ListN.{length, get_or, get_or-eq_default}
 use Rattle.calendar.specs.Calendar.{days_in, day_length, readings_through, month_length}
-use Rattle.calendar.proofs.Booleans.{or_neither}
+use Rattle.std.proofs.lemmas.Bool.{or_parts}
 use Rattle.calendar.proofs.Laws.{through_next, month_length-is, month_length-le}
 use Rattle.hours.specs.Hours.{is_peak, period_of, by_period}
 use Rattle.std.specs.Prelude.{Option, Some, None}
@@ -107,7 +107,7 @@ known_within : (r : List ℕ) (i : ℕ) → some_above r i ≡ false → last_kn
 unfolding some_above last_known
 known_within r zero e = omega arith
 known_within r (suc i) e =
-    let (before, here) = or_neither (some_above r i) (not (is_lost r i) && ltb reading_limit (reading r i)) e in
+    let (before, here) = or_parts (some_above r i) (not (is_lost r i) && ltb reading_limit (reading r i)) e in
     by (is_lost r i) (last_known r i) (reading r i) (known_within r i before) here
   where
     by : (b : Bool) (v w : ℕ) → v ≤ reading_limit → (not b && ltb reading_limit w) ≡ false → cond b v w ≤ reading_limit
@@ -157,7 +157,7 @@ within_first r zero i e h = absurd (omega arith)
 within_first r (suc n) i e h =
     ⊎_elim
     (λ same. rw same (known_within r (suc n) e))
-    (λ less. within_first r n i (or_neither (some_above r n) _ e).0 less)
+    (λ less. within_first r n i (or_parts (some_above r n) _ e).0 less)
     (eq-or-lt_of_le (le_of_suc-le-suc h))
 
 pub readings_within : (r : List ℕ) → reading_refused r ≡ false → (i : ℕ) → counts_as r i ≤ reading_limit

@@ -9,7 +9,7 @@ use lib.Dec.{eqb, ltb}
 use lib.ListN.{length, take, drop}
 use denote.Ref.{Bor}
 use Rattle.calendar.specs.Calendar.{last_month, days_in, day_length, readings_through, month_length}
-use Rattle.calendar.proofs.Booleans.{or_neither}
+use Rattle.std.proofs.lemmas.Bool.{or_parts}
 use Rattle.calendar.proofs.Laws.{through_more, through_mono, month_length-is}
 use Rattle.registers.specs.Registers.{length_refused}
 use Rattle.registers.specs.DayView.{empty_view, view_of, IsPart}
@@ -29,11 +29,11 @@ pub record Viewed (delivered received : List ℕ) (m d k : ℕ) : Type 0 where
 pub viewed : (delivered received : List ℕ) (m d k : ℕ) → empty_view delivered received m d k ≡ false → Viewed delivered received m d k
 unfolding empty_view
 viewed xs ys m d k e =
-    let (front, number) = or_neither (ltb last_month m || (ltb d 1 || ltb (days_in m) d) || (length_refused m xs || length_refused m ys)) (ltb 1 k) e in
-    let (day, lengths) = or_neither (ltb last_month m || (ltb d 1 || ltb (days_in m) d)) (length_refused m xs || length_refused m ys) front in
-    let (_, days) = or_neither (ltb last_month m) (ltb d 1 || ltb (days_in m) d) day in
-    let (first, last) = or_neither (ltb d 1) (ltb (days_in m) d) days in
-    let (one, other) = or_neither (length_refused m xs) (length_refused m ys) lengths in
+    let (front, number) = or_parts (ltb last_month m || (ltb d 1 || ltb (days_in m) d) || (length_refused m xs || length_refused m ys)) (ltb 1 k) e in
+    let (day, lengths) = or_parts (ltb last_month m || (ltb d 1 || ltb (days_in m) d)) (length_refused m xs || length_refused m ys) front in
+    let (_, days) = or_parts (ltb last_month m) (ltb d 1 || ltb (days_in m) d) day in
+    let (first, last) = or_parts (ltb d 1) (ltb (days_in m) d) days in
+    let (one, other) = or_parts (length_refused m xs) (length_refused m ys) lengths in
     record {
       first = ltb-false _ _ first;
       last = ltb-false _ _ last;

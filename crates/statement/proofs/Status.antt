@@ -9,7 +9,7 @@ use borrow.Author.Tests.{eqb-true, ne_eqb, lt-ltb, le-ltb, ltb-false, not-true}
 use lib.Dec.{eqb, ltb}
 use lib.ListN.{length, get_or, drop, length-append}
 use Rattle.calendar.specs.Calendar.{year_of, month_of_year}
-use Rattle.calendar.proofs.Booleans.{and_both}
+use Rattle.std.proofs.lemmas.Bool.{and_parts}
 use Rattle.billing.specs.declared.Bill.{Bill}
 use Rattle.text.specs.Text.{bytes_of, place_of, lines_from}
 use Rattle.text.proofs.Laws.{Plain, plain_append, line_first}
@@ -98,7 +98,7 @@ unfolding one_line filled_in
 filled_line [] ns h = absurd (false≢true h)
 filled_line (b ∷ []) ns h = rw (eqb-true b 10 h, filled_byte 10 [] ns refl) (record { line = []; is-line = newline })
 filled_line (b ∷ c ∷ t) ns h =
-    let both = and_both (not (eqb b 10)) (one_line (c ∷ t)) h in
+    let both = and_parts (not (eqb b 10)) (one_line (c ∷ t)) h in
     filled_next b (c ∷ t) ns (eqb b mark) refl (not-true (eqb b 10) both.0) (λ ms. filled_line (c ∷ t) ms both.1)
 
 -- The status after such a text is the one after its line.

@@ -9,7 +9,7 @@ use borrow.Author.Tests.{le-leb, leb-true, ltb-true, lt-ltb, not-true}
 use lib.Dec.{eqb, leb, ltb}
 use lib.ListN.{length, get_or}
 use Rattle.calendar.specs.Calendar.{year_of, month_of_year}
-use Rattle.calendar.proofs.Booleans.{and_both}
+use Rattle.std.proofs.lemmas.Bool.{and_parts}
 use Rattle.billing.specs.declared.Bill.{Bill}
 use Rattle.text.specs.Text.{bytes_of}
 use Rattle.numerals.specs.Numerals.{is_digit}
@@ -90,11 +90,11 @@ unfolding all_fit
 read_next b t after v [] true e p m f z r q = absurd (omega arith)
 read_next b t true v (n ∷ ns) true e p m f z r q = absurd (false≢true p)
 read_next b t false v (n ∷ ns) true e p m f z r q =
-    let both = and_both (leb n 18446744073709551615) (all_fit ns) f in
+    let both = and_parts (leb n 18446744073709551615) (all_fit ns) f in
     rw (z refl, filled_mark b t n ns e)
     (read_number n (filled_in t ns) (leb-true n 18446744073709551615 both.0) ∙ r n ns p (omega arith) both.1)
 read_next b t after v ns false e p m f z r q =
-    let both = and_both (not (is_digit b)) (plain false t) p in
+    let both = and_parts (not (is_digit b)) (plain false t) p in
     rw (filled_byte b t ns e, read_other after v b (filled_in t ns) (not-true (is_digit b) both.0), q both.1 (omega arith))
 
 read_template : (t : List ℕ) (after : Bool) (v : ℕ) (ns : List ℕ) → plain after t ≡ true → marks t ≡ length ns → all_fit ns ≡ true
@@ -155,7 +155,7 @@ pub bill_reads_back : (m n : ℕ) (b : Bill) → all_fit (year_of m ∷ n ∷ am
     → (kind_of (bill_text m n b) ≡ month) × (numbers_of (bill_text m n b) ≡ year_of m ∷ month_of_year m ∷ n ∷ amounts b)
 unfolding all_fit numbers_of first_of kind_of bill_text
 bill_reads_back m n b f =
-    let both = and_both (leb (year_of m) 18446744073709551615) (all_fit (n ∷ amounts b)) f in
+    let both = and_parts (leb (year_of m) 18446744073709551615) (all_fit (n ∷ amounts b)) f in
     let ns = bill_numbers m n b (leb-true (year_of m) 18446744073709551615 both.0) both.1 in
     let text = front after_month (n ∷ amounts b) (year_of m) (month_of_year m / 10) (month_of_year m % 10) in
     (ap (λ (x : List ℕ). get_or x 0 0) text, ap (first_of 33) ns)

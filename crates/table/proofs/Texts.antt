@@ -6,7 +6,7 @@ use Prim.Native.Nat.{ℕ, zero, suc, ◌≤◌}
 use borrow.Author.Tests.{leb-true}
 use lib.Dec.{eqb, leb, lit≤}
 use lib.ListN.{length, get_or}
-use Rattle.calendar.proofs.Booleans.{and_both}
+use Rattle.std.proofs.lemmas.Bool.{and_parts}
 use Rattle.table.specs.Reasons.{wrong, to_do, wrong_at}
 use Rattle.table.specs.declared.Kind.{Kind}
 use Rattle.table.specs.declared.Kind.TheVariants.{Opening, Month, Stop, Other}
@@ -20,8 +20,8 @@ all_within m (x ∷ l) = leb (length x) m && all_within m l
 each_within : (m : ℕ) (l : List (List ℕ)) (k : ℕ) → all_within m l ≡ true → 0 ≤ m → length (get_or l k []) ≤ m
 unfolding all_within
 each_within m [] k e h = h
-each_within m (x ∷ l) zero e h = leb-true (length x) m (and_both (leb (length x) m) (all_within m l) e).0
-each_within m (x ∷ l) (suc k) e h = each_within m l k (and_both (leb (length x) m) (all_within m l) e).1 h
+each_within m (x ∷ l) zero e h = leb-true (length x) m (and_parts (leb (length x) m) (all_within m l) e).0
+each_within m (x ∷ l) (suc k) e h = each_within m l k (and_parts (leb (length x) m) (all_within m l) e).1 h
 
 pub wrong_short : (row : ℕ) → length (wrong_at row) ≤ 80
 unfolding wrong_at all_within

@@ -7,6 +7,7 @@ use native.Mathlib.Omega.{arith}
 use borrow.Author.Tests.{ltb-false, le-leb, lt-leb, leb-true, leb-false}
 use lib.Dec.{leb, ltb}
 use lib.ListN.{get_or}
+use Rattle.std.proofs.lemmas.Bool.{or_parts}
 use Rattle.tariff.specs.declared.Class.{Class}
 use Rattle.tariff.specs.declared.Class.TheVariants.{Home, Business}
 use Rattle.tariff.specs.declared.Terms.{Terms}
@@ -14,20 +15,11 @@ use Rattle.tariff.specs.declared.PriceList.{PriceList}
 use Rattle.tariff.specs.Tariff.{price_limit, amount_limit, some_over, nine_prices, prices_rise, prices_refused}
 use Rattle.tariff.specs.Tariff.{total_nameplate, some_below_one, class_limit, capacity_limit, capacity_refused}
 
--- Where neither of two tests is true, each is false.
-pub or_left : (a b : Bool) → (a || b) ≡ false → a ≡ false
-or_left true b h = h
-or_left false b h = refl
-
-pub or_right : (a b : Bool) → (a || b) ≡ false → b ≡ false
-or_right true b h = cc
-or_right false b h = h
-
 -- Where no number is above the limit, each is at most the limit.
 none_over : (limit : ℕ) (xs : List ℕ) → some_over limit xs ≡ false → (i : ℕ) → get_or xs i 0 ≤ limit
 none_over limit [] h i = omega arith
-none_over limit (x ∷ xs) h zero = ltb-false limit x (or_left (ltb limit x) (some_over limit xs) h)
-none_over limit (x ∷ xs) h (suc i) = none_over limit xs (or_right (ltb limit x) (some_over limit xs) h) i
+none_over limit (x ∷ xs) h zero = ltb-false limit x (or_parts (ltb limit x) (some_over limit xs) h).0
+none_over limit (x ∷ xs) h (suc i) = none_over limit xs (or_parts (ltb limit x) (some_over limit xs) h).1 i
 
 -- A price list within its limits: the nine prices, the two amounts, and the order of the energy prices.
 pub record WithinLimits (l : PriceList) : Type 0 where
@@ -54,12 +46,13 @@ within_limits l h =
     let onpeak : Bool = ltb l.energy.critical l.energy.onpeak in
     let offpeak : Bool = ltb l.energy.onpeak l.energy.offpeak in
     let discount : Bool = ltb l.energy.offpeak l.energy.discount in
-    let limits : (prices || amounts) ≡ false = or_left (prices || amounts) (onpeak || offpeak || discount) h in
-    let order : (onpeak || offpeak || discount) ≡ false = or_right (prices || amounts) (onpeak || offpeak || discount) h in
-    let first : (onpeak || offpeak) ≡ false = or_left (onpeak || offpeak) discount order in
-    let price : (i : ℕ) → get_or (nine_prices l) i 0 ≤ price_limit = none_over price_limit (nine_prices l) (or_left prices amounts limits) in
+    let (limits, order) = or_parts (prices || amounts) (onpeak || offpeak || discount) h in
+    let (low_prices, low_amounts) = or_parts prices amounts limits in
+    let (first, third) = or_parts (onpeak || offpeak) discount order in
+    let (one, two) = or_parts onpeak offpeak first in
+    let price : (i : ℕ) → get_or (nine_prices l) i 0 ≤ price_limit = none_over price_limit (nine_prices l) low_prices in
     let amount : (i : ℕ) → get_or (l.basic ∷ l.minimum ∷ []) i 0 ≤ amount_limit =
-    none_over amount_limit (l.basic ∷ l.minimum ∷ []) (or_right prices amounts limits) in
+    none_over amount_limit (l.basic ∷ l.minimum ∷ []) low_amounts in
     record {
       critical = price 0;
       onpeak = price 1;
@@ -72,9 +65,9 @@ within_limits l h =
       distribution = price 8;
       basic = amount 0;
       minimum = amount 1;
-      onpeak_falls = ltb-false _ _ (or_left onpeak offpeak first);
-      offpeak_falls = ltb-false _ _ (or_right onpeak offpeak first);
-      discount_falls = ltb-false _ _ (or_right (onpeak || offpeak) discount order);
+      onpeak_falls = ltb-false _ _ one;
+      offpeak_falls = ltb-false _ _ two;
+      discount_falls = ltb-false _ _ third;
     }
 
 -- No limit beside the demand limit is above that of a business.
@@ -98,10 +91,10 @@ nameplate_within t h =
     let least : Bool = some_below_one t in
     let demand : Bool = ltb t.limit (total_nameplate t) in
     let class : Bool = ltb (capacity_limit t) (total_nameplate t) in
-    let both : (least || demand) ≡ false = or_left (least || demand) class h in
-    let capacity : total_nameplate t ≤ capacity_limit t = ltb-false _ _ (or_right (least || demand) class h) in
+    let (both, below) = or_parts (least || demand) class h in
+    let capacity : total_nameplate t ≤ capacity_limit t = ltb-false _ _ below in
     record {
-      demand = ltb-false _ _ (or_right least demand both);
+      demand = ltb-false _ _ (or_parts least demand both).1;
       capacity = capacity;
       most = omega (arith, capacity, capacity_limit-le t);
     }
