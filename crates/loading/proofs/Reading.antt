@@ -13,7 +13,7 @@ use Rattle.std.specs.Option.{MatchOption}
 use Rattle.std.specs.Bool.{then_some}
 use Rattle.text.specs.Text.{bytes_of, place_of, lines_from}
 use Rattle.text.proofs.Laws.{first_line}
-use Rattle.text.proofs.Lists.{rest_is}
+use Rattle.std.proofs.lemmas.List.{take_rest}
 use Rattle.grammar.specs.Grammar.{keyed}
 use Rattle.loading.specs.Loading.{periods_in, schedule_lines, all_good, all_given, load_refused, load_number, table_after}
 use Rattle.loading.specs.Reading.{RowRefused, RowRead, RowsRefused, RowsRead}
@@ -43,7 +43,7 @@ module _ (key text : List ℕ) (end : ℕ) (some : 0 < length text) (e : end ≡
 
 -- What is behind the first line.
 pub behind : (text : List ℕ) (end m : ℕ) → m ≡ min (length text) (end + 1) → take (length text - m) (drop m text) ≡ drop (end + 1) text
-behind text end m e = rest_is m text ∙ ⊎_elim inside past (cases_lt end (length text))
+behind text end m e = take_rest text m ∙ ⊎_elim inside past (cases_lt end (length text))
   where
     inside : end < length text → drop m text ≡ drop (end + 1) text
     inside h = let same : m ≡ end + 1 = omega arith in rw same

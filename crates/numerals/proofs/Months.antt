@@ -7,7 +7,7 @@ use borrow.Author.Tests.{eq-eqb, ne_eqb}
 use lib.ListN.{length, get_or, take, drop}
 use Rattle.numerals.specs.Numerals.{value_of, is_number, is_month, month_in}
 use Rattle.numerals.specs.Joining.{month_from}
-use Rattle.text.proofs.Lists.{rest_is}
+use Rattle.std.proofs.lemmas.List.{take_rest}
 
 module _ (l : List ℕ) where
   pub month_length_lem : (length l ≡ 7 → ⊥) → month_in l ≡ []
@@ -26,7 +26,7 @@ module _ (l : List ℕ) where
       → is_number (take (length l - 5) (drop 5 l)) ≡ false → month_in l ≡ []
   unfolding month_in is_month
   month_of_year_lem e d y h =
-      let k = rw (rest_is 5 l) at h in
+      let k = rw (take_rest l 5) at h in
       simp (eq-eqb _ _ e, eq-eqb _ _ d, y, k)
 
   pub month_is : (year k : ℕ) → length l ≡ 7 → get_or l 4 0 ≡ 45 → is_number (take 4 l) ≡ true
@@ -34,5 +34,5 @@ module _ (l : List ℕ) where
       → month_from year k ≡ month_in l
   unfolding month_in is_month month_from
   month_is year k e d y m p q =
-      let n = rw (rest_is 5 l) at m in
-      rw (p, q, rest_is 5 l) (simp (eq-eqb _ _ e, eq-eqb _ _ d, y, n))
+      let n = rw (take_rest l 5) at m in
+      rw (p, q, take_rest l 5) (simp (eq-eqb _ _ e, eq-eqb _ _ d, y, n))

@@ -10,7 +10,7 @@ use lib.Dec.{eqb, leb}
 use lib.ListN.{length, take, drop, length-map, length-append, length-drop}
 use Rattle.text.specs.Text.{place_of}
 use Rattle.numerals.specs.Numerals.{value_of, is_number, on_first, parts_of, all_numbers, numbers_in, numbers_up_to}
-use Rattle.text.proofs.Lists.{rest_is}
+use Rattle.std.proofs.lemmas.List.{take_rest}
 
 pub on_first_count : (b : ℕ) (ps : List (List ℕ)) → length (on_first b ps) ≡ length ps
 on_first_count b [] = refl
@@ -101,7 +101,7 @@ module _ {text xs rest : List ℕ} (r : Read text xs rest) where
         → Read text (xs ++ v ∷ []) (take (length rest - (k + 1)) (drop (k + 1) rest))
     unfolding all_numbers
     read_more v f is =
-        rw (rest_is (k + 1) rest)
+        rw (take_rest rest (k + 1))
         (record {
           count = r.count ∙ rw (parts_are, length-append) (omega arith);
           numbers = r.numbers ∙ rw (parts_are, f);

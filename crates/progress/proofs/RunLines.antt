@@ -7,8 +7,9 @@ use native.Mathlib.Omega.{arith}
 use borrow.Author.Tests.{leb-true, le-leb, lt-leb, eqb-true, eqb-false, eq-eqb, ne_eqb}
 use lib.Dec.{eqb, leb}
 use lib.ListN.{length, get_or, take, drop, length-take, length-drop}
-use lib.Seq.{take_all, drop-drop}
+use lib.Seq.{drop-drop}
 use Rattle.std.specs.Prelude.{Option, Some, None, is_some, OnSome, IfNone}
+use Rattle.std.proofs.lemmas.List.{take_rest}
 use Rattle.text.specs.Text.{place_of}
 use Rattle.grammar.specs.Grammar.{run_line, bill_line}
 use Rattle.progress.specs.declared.readings.Run.{Run}
@@ -316,12 +317,9 @@ pub record Ran (before : State) (r : Registers) (input : List ℕ) (taken : ℕ)
 
 -- The code lends what is left of the input.
 module _ (before s : State) (r q : Registers) (input : List ℕ) (taken : ℕ) (w : Running before r input taken s q) where
-  rest_is : take (length input - taken) (drop taken input) ≡ drop taken input
-  rest_is = take_all (length input - taken) (drop taken input) (omega (arith, length-drop taken input))
-
   pub running_none : is_run_expected (take (length input - taken) (drop taken input)) s ≡ false → Ran before r input taken s q
   running_none h =
-      let e : is_run_expected (drop taken input) s ≡ false = rw rest_is at h in
+      let e : is_run_expected (drop taken input) s ≡ false = rw (take_rest input taken) at h in
       record {
         takes = sym (w.bytes ∙ rw (bytes_none (length input - taken) (drop taken input) s e) (omega arith));
         state = sym (w.state ∙ state_none (length input - taken) (drop taken input) s e);
@@ -333,9 +331,9 @@ module _ (before s : State) (r q : Registers) (input : List ℕ) (taken : ℕ) (
       → t ≡ (line_read (line_at (take (length input - taken) (drop taken input))) s).state → p ≡ with_readings t r → Running before r input (taken + more) t p
   running_more t p more h k f v =
       let rest = drop taken input in
-      let expected : is_run_expected rest s ≡ true = rw rest_is at h in
-      let bytes : more ≡ place_of 10 rest + 1 = rw rest_is at k in
-      let then : t ≡ (line_read (line_at rest) s).state = rw rest_is at f in
+      let expected : is_run_expected rest s ≡ true = rw (take_rest input taken) at h in
+      let bytes : more ≡ place_of 10 rest + 1 = rw (take_rest input taken) at k in
+      let then : t ≡ (line_read (line_at rest) s).state = rw (take_rest input taken) at f in
       let newline = expected_newline rest s expected in
       let long = length-drop taken input in
       let less : length input - taken ≡ suc (length input - taken - 1) = omega (arith, newline, long) in

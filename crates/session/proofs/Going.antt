@@ -15,7 +15,7 @@ use Rattle.session.specs.declared.Session.{Session}
 use Rattle.session.specs.Sessions.{so_far_of, registers_of, least_room, Feeds}
 use Rattle.session.specs.Taking.{Takes}
 use borrow.Rule.Slice.PartMut.{put_mid}
-use Rattle.text.proofs.Lists.{rest_is}
+use Rattle.std.proofs.lemmas.List.{take_rest}
 use Rattle.printing.proofs.Writing.{then, wrote_part}
 use Rattle.lines.proofs.Buffers.{cut_registers}
 use Rattle.lines.proofs.Streams.{cut_text, cut_state}
@@ -108,7 +108,7 @@ takes_part y z h w = record {
 pub more_taken : (y z : Session) {out out_later : List ℕ} {i j : ℕ} (input : List ℕ) (taken t : ℕ) → taken < length input
     → Takes y (take (length input - taken) (drop taken input)) out i t z j out_later → (0 < t) × (taken + t ≤ length input)
 more_taken y z input taken t h made =
-    let l = rw (rest_is taken input) at made in
+    let l = rw (take_rest input taken) at made in
     let long = length-drop taken input in
     (l.some (omega arith), omega (arith, l.inside))
 
@@ -119,7 +119,7 @@ module _ {x y z : Session} {input out out_current out_later : List ℕ} {taken w
   going_more g h room made =
       let before = so_far_of x in
       let rest = drop taken input in
-      let l = rw (rest_is taken input) at made in
+      let l = rw (take_rest input taken) at made in
       let left : written + 1024 ≤ length out = omega (arith, room_left out_current written room, same_long g) in
       let text = printed (so_far_of y) (take t rest) in
       let short : length text ≤ 1024 = l.short in

@@ -1,7 +1,7 @@
 -- `statement::give` gives a session all bytes, piece by piece: `Giving` has the steps.
 use Rattle.std.proofs.Common.{rules, arith, length, length-drop}
 use Rattle.session.specs.Sessions.{so_far_of}
-use Rattle.text.proofs.Lists.{rest_is}
+use Rattle.std.proofs.lemmas.List.{take_rest}
 use Rattle.statement.proofs.Giving.{some_left, given_some, given_more, given_all}
 use Rattle.statement.proofs.give.Goals as goal
 
@@ -10,12 +10,12 @@ loop-rest-smaller c = let loop = c.loop-rest in
     let rest = loop.rest.now in
     let some = some_left (length rest) c.is_empty.ensures c.loop-rest-test.true in
     let taken = given_some (so_far_of loop.session) rest loop.out (omega (arith, c.requires, loop.invariant.same_room)) some c.feed-fed.ensures.takes in
-    rw (rest_is c.feed-fed.result.taken rest) (omega (arith, length-drop c.feed-fed.result.taken rest))
+    rw (take_rest rest c.feed-fed.result.taken) (omega (arith, length-drop c.feed-fed.result.taken rest))
 
 pub loop-rest-preserved : goal.loop-rest-preserved
 loop-rest-preserved c = record {
   same_room = search rules;
-  given = rw (rest_is c.feed-fed.result.taken c.loop-rest.rest.now)
+  given = rw (take_rest c.loop-rest.rest.now c.feed-fed.result.taken)
       (given_more c.loop-rest.verdict c.in_ok-verdict.verdict c.loop-rest.invariant.given c.feed-fed.ensures c.in_ok-verdict.ensures);
 }
 

@@ -1,7 +1,7 @@
 -- `whole::statement_of` feeds a session until it has taken all or is stopped: `Going` has the steps.
 use Rattle.std.proofs.Common.{rules, arith, sym, ◌∙◌, length, length-drop}
 use Rattle.session.specs.Sessions.{so_far_of}
-use Rattle.text.proofs.Lists.{rest_is}
+use Rattle.std.proofs.lemmas.List.{take_rest}
 use Rattle.whole.proofs.Going.{some_left, going_start, going_more, going_stopped, going_all, whole_long}
 use Rattle.whole.proofs.statement_of.Goals as goal
 
@@ -12,11 +12,11 @@ pub loop-rest-smaller : goal.loop-rest-smaller
 loop-rest-smaller c = let rest = c.loop-rest.rest.now in
     let fed = c.feed_some-fed in
     let taken = fed.ensures.some (some_left (length rest) c.is_empty.ensures c.loop-rest-test.true) in
-    rw (rest_is fed.result.taken rest) (omega (arith, length-drop fed.result.taken rest))
+    rw (take_rest rest fed.result.taken) (omega (arith, length-drop fed.result.taken rest))
 
 pub loop-rest-preserved : goal.loop-rest-preserved
 loop-rest-preserved c = let fed = c.feed_some-fed in
-    rw (rest_is fed.result.taken c.loop-rest.rest.now) (going_more (omega (arith, c.well_formed)) c.loop-rest.invariant fed.ensures)
+    rw (take_rest c.loop-rest.rest.now fed.result.taken) (going_more (omega (arith, c.well_formed)) c.loop-rest.invariant fed.ensures)
 
 pub returns-then-is_stopped : goal.returns-then-is_stopped
 returns-then-is_stopped c = let g = going_more {later = so_far_of c.feed_some-fed.new.session} (omega (arith, c.well_formed)) c.loop-rest.invariant c.feed_some-fed.ensures in
