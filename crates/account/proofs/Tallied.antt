@@ -1,6 +1,6 @@
 -- A billing from the tallies of its registers: the number is the table's, and the amounts of an accepted bill are those of the steps.
 use mathlib.Core.Path.{◌≡◌, refl, ◌∙◌, sym}
-use mathlib.Core.Bool.{Bool, true, false, not, ◌||◌}
+use mathlib.Core.Bool.{Bool, true, false, not, ◌||◌, or-true}
 use mathlib.Core.List.{List, [], ◌∷◌}
 use Prim.Native.Nat.{ℕ}
 use native.Mathlib.Omega.{arith}
@@ -31,10 +31,6 @@ use Rattle.account.proofs.Accepted.{BillingAccepted, billing_accepted}
 -- Nothing is wrong.
 abbrev NoFaults : Faults → Type 0
 NoFaults f = (f.wronglength ≡ false) × ((f.wrongdays ≡ false) × ((f.abovelimit ≡ false) × (f.firstlost ≡ false)))
-
-or_true : (b : Bool) → (b || true) ≡ true
-or_true true = refl
-or_true false = refl
 
 -- The hours that an account is billed by.
 pub schedule_is : (a : Account) → schedule_of a ≡ fixed_schedule
@@ -125,4 +121,4 @@ module _ (a : Account) (m : ℕ) (delivered received : List ℕ) (x : ℕ) where
 
   pub received_number : (s : List ℕ) (d : Condition) (f : Faults) → d ≡ condition_of a → NoFaults f → 0 ≡ billing_row d.fresh d.unusable a.next m f
       → None ≡ tally_of s m x received → 8 ≡ billing_number a m delivered received x
-  received_number s d f k n e h = length_number d f k n e (rw (tally_wrong s m x received h) (or_true (length_refused m delivered)))
+  received_number s d f k n e h = length_number d f k n e (rw (tally_wrong s m x received h) (or-true (length_refused m delivered)))

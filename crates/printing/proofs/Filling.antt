@@ -8,6 +8,7 @@ use borrow.Author.Tests.{eq-eqb, ne_eqb}
 use borrow.Rule.Slice.PartMut.{put_mid}
 use lib.ListN.{length, get_or, take, drop, set, drop_of_length-le, length-append, length-set}
 use lib.Seq.{sets, drop-cons, length-sets}
+use Rattle.std.proofs.lemmas.List.{nil_from_length}
 use Rattle.printing.specs.Text.{decimal, filled_in, most_bytes}
 use Rattle.printing.specs.Writing.{Wrote}
 use Rattle.text.proofs.Lists.{sets-append}
@@ -35,10 +36,6 @@ filled_none b t e = rw (eq-eqb b 35 e)
 filled_number : (b : ℕ) (t : List ℕ) (n : ℕ) (ns : List ℕ) → b ≡ 35 → filled_in (b ∷ t) (n ∷ ns) ≡ decimal n ++ filled_in t ns
 unfolding filled_in
 filled_number b t n ns e = rw (eq-eqb b 35 e)
-
-no_number : (ms : List ℕ) → length ms ≡ 0 → ms ≡ []
-no_number [] e = refl
-no_number (m ∷ ms) e = absurd (omega arith)
 
 -- The room that a byte and a mark take.
 most_byte : (b : ℕ) (t : List ℕ) → (b ≡ 35 → ⊥) → most_bytes (b ∷ t) ≡ 1 + most_bytes t
@@ -87,7 +84,7 @@ module _ {t ns out₀ out ms : List ℕ} {j p : ℕ} (g : Filling t ns out₀ ou
   -- nothing for a mark where no number is left,
   pub then_none : {ls : List ℕ} → get_or t p 0 ≡ 35 → length ms ≡ 0 → ls ≡ ms → Filling t ns out₀ out j ls (p + 1)
   then_none {ls} m l s =
-      let none : ms ≡ [] = no_number ms l in
+      let none : ms ≡ [] = nil_from_length ms l in
       let e = ap (λ (l : List ℕ). filled_in l []) ahead ∙ filled_none _ (drop (p + 1) t) m in
       rw (s, none)
       record {

@@ -9,7 +9,7 @@ use lib.Dec.{eqb, leb}
 use lib.ListN.{length, get_or, take, drop, length-take, length-drop}
 use lib.Seq.{drop-drop}
 use Rattle.std.specs.Prelude.{Option, Some, None, is_some, OnSome, IfNone}
-use Rattle.std.proofs.lemmas.List.{take_rest}
+use Rattle.std.proofs.lemmas.List.{take_rest, nil_from_length}
 use Rattle.text.specs.Text.{place_of}
 use Rattle.grammar.specs.Grammar.{run_line, bill_line}
 use Rattle.progress.specs.declared.readings.Run.{Run}
@@ -79,16 +79,12 @@ some_numbers l run h = by (eqb (length (run_line l)) 0) refl h
     by true p e = absurd (cc)
     by false p e = (eqb-false (length (run_line l)) 0 p, cc)
 
-no_items : (v : List ℕ) → length v ≡ 0 → [] ≡ v
-no_items [] h = refl
-no_items (x ∷ v) h = absurd (omega arith)
-
 pub none_numbers : (l : List ℕ) → None ≡ run_of l → [] ≡ run_line l
 unfolding run_of
 none_numbers l h = by (eqb (length (run_line l)) 0) refl h
   where
     by : (b : Bool) → eqb (length (run_line l)) 0 ≡ b → None ≡ cond b None (Some (run_from (run_line l))) → [] ≡ run_line l
-    by true p e = no_items (run_line l) (eqb-true (length (run_line l)) 0 p)
+    by true p e = sym (nil_from_length (run_line l) (eqb-true (length (run_line l)) 0 p))
     by false p e = absurd (cc)
 
 -- A line after the critical line.

@@ -7,6 +7,7 @@ use native.Mathlib.Nat.{sub-zero}
 use native.Mathlib.Omega.{arith}
 use lib.ListN.{length, take, drop, length-drop}
 use lib.Seq.{take-add, drop-drop}
+use Rattle.std.proofs.lemmas.List.{nil_from_length}
 use Rattle.text.specs.Text.{place_of}
 use Rattle.lines.specs.Statement.{State, Outcome, counted, line_read}
 use Rattle.progress.specs.declared.Progress.{Progress}
@@ -124,11 +125,6 @@ quiet (suc n) l s = by (is_run_expected l s) refl (quiet n (drop (place_of 10 l 
     by true e w = rw (bytes_more n l s e, state_more n l s e) (quiet_more l s _ _ e w)
     by false e w = rw (bytes_none (suc n) l s e, state_none (suc n) l s e) (quiet_none l s)
 
--- Nothing is held.
-none_held : (l : List ℕ) → length l ≡ 0 → l ≡ []
-none_held [] h = refl
-none_held (b ∷ l) h = absurd (omega arith)
-
 module _ (x : Session) (later : Progress) (input out : List ℕ) (i taken : ℕ) (w : RunsRead x.progress input taken later) where
   as_quiet : Quiet input (state_of x.progress) taken (state_of later)
   as_quiet = rw (w.takes, w.state) (quiet (length input) input (state_of x.progress))
@@ -139,7 +135,7 @@ module _ (x : Session) (later : Progress) (input out : List ℕ) (i taken : ℕ)
   takes_runs empty h =
       let k = as_quiet in
       let text = k.text in
-      rw (none_held x.held.items empty)
+      rw (nil_from_length x.held.items empty)
       (record {
         some = λ _. omega (arith, h);
         inside = k.inside;

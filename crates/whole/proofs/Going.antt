@@ -7,6 +7,7 @@ use Prim.Native.Nat.{ℕ, zero, suc, ◌≤◌, ◌<◌}
 use native.Mathlib.Omega.{arith}
 use lib.ListN.{length, take, drop, take-append-drop}
 use lib.Seq.{sets, length-sets}
+use Rattle.std.proofs.lemmas.List.{nil_from_length}
 use Rattle.lines.specs.Statement.{last_number, has_stopped, statement_of}
 use Rattle.lines.specs.Feeding.{SoFar, nothing_read, after, printed, ending}
 use Rattle.lines.proofs.Streams.{streams, cut_text, cut_state}
@@ -14,11 +15,7 @@ use Rattle.whole.specs.Adding.{Adds, FeedsSome}
 use Rattle.whole.specs.Whole.{length_of}
 use Rattle.whole.proofs.Adding.{then}
 
--- Nothing is left, or some bytes are.
-none_left : (rest : List ℕ) → length rest ≡ 0 → rest ≡ []
-none_left [] h = refl
-none_left (b ∷ rest) h = absurd (omega arith)
-
+-- Some bytes are left.
 pub some_left : {b : Bool} (n : ℕ) → b ≡ eqb n 0 → b ≡ false → 0 < n
 some_left zero e f = absurd (false≢true (sym f ∙ e))
 some_left (suc n) e f = omega arith
@@ -66,7 +63,7 @@ module _ {input text rest text_current : List ℕ} {place : ℕ} {current : SoFa
   pub going_all : {text_later : List ℕ} {j : ℕ} → length rest ≡ 0 → Adds text_current place (ending current) text_later j
       → Adds text 0 (statement_of input) text_later j
   unfolding printed after
-  going_all h a = g.whole _ _ (rw (none_left rest h) a)
+  going_all h a = g.whole _ _ (rw (nil_from_length rest h) a)
 
 -- All was added from the front: the place after it is its length.
 pub whole_long : {text part text_later : List ℕ} {j : ℕ} → Adds text 0 part text_later j → j ≡ length_of part
