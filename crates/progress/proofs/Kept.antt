@@ -14,6 +14,7 @@ use Rattle.tariff.specs.declared.Rider.TheVariants.{Banked, Bridge}
 use Rattle.tariff.specs.declared.Class.{Class}
 use Rattle.tariff.specs.declared.Class.TheVariants.{Home, Business}
 use Rattle.tariff.specs.Tariff.{eight_at}
+use Rattle.tariff.proofs.Laws.{eight_back}
 use Rattle.account.specs.declared.Account.{Account}
 use Rattle.account.specs.Account.{PlainReply, opening_reply}
 use Rattle.text.specs.Text.{bytes_of}
@@ -102,18 +103,6 @@ class_back Business = refl
 assisted_back : (b : Bool) → eqb (cond b 1 0) 1 ≡ b
 assisted_back true = refl
 assisted_back false = refl
-
-eight_back : (l : List ℕ) → length l ≡ 8 → eight_at l 0 0 ≡ l
-eight_back (a ∷ b ∷ c ∷ d ∷ e ∷ f ∷ g ∷ h ∷ []) p = refl
-eight_back [] p = absurd (omega arith)
-eight_back (a ∷ []) p = absurd (omega arith)
-eight_back (a ∷ b ∷ []) p = absurd (omega arith)
-eight_back (a ∷ b ∷ c ∷ []) p = absurd (omega arith)
-eight_back (a ∷ b ∷ c ∷ d ∷ []) p = absurd (omega arith)
-eight_back (a ∷ b ∷ c ∷ d ∷ e ∷ []) p = absurd (omega arith)
-eight_back (a ∷ b ∷ c ∷ d ∷ e ∷ f ∷ []) p = absurd (omega arith)
-eight_back (a ∷ b ∷ c ∷ d ∷ e ∷ f ∷ g ∷ []) p = absurd (omega arith)
-eight_back (a ∷ b ∷ c ∷ d ∷ e ∷ f ∷ g ∷ h ∷ i ∷ l) p = absurd (omega arith)
 
 module _ (t : Terms) where
   abbrev made : Rider → Class → List ℕ → Bool → Terms

@@ -15,7 +15,8 @@ use Rattle.tariff.specs.declared.Class.{Class}
 use Rattle.tariff.specs.declared.Class.TheVariants.{Home, Business}
 use Rattle.tariff.specs.declared.Terms.{Terms}
 use Rattle.tariff.specs.declared.PriceList.{PriceList}
-use Rattle.tariff.specs.Tariff.{most_nameplates, eight_at}
+use Rattle.tariff.specs.Tariff.{most_nameplates}
+use Rattle.tariff.proofs.Laws.{eight_back}
 use Rattle.tariff.specs.Codes.{rider_code, rider_at, class_code, class_at}
 use Rattle.records.specs.Sections.{yes_code}
 use Rattle.records.specs.Sections.{terms_length, terms_numbers, terms_at, known_terms, prices_length, prices_numbers, prices_at}
@@ -43,19 +44,6 @@ yes_known false = refl
 yes_back : (b : Bool) → eqb (yes_code b) 1 ≡ b
 yes_back true = refl
 yes_back false = refl
-
--- Eight places are read back.
-eight_back : (xs : List ℕ) → length xs ≡ most_nameplates → eight_at xs 0 0 ≡ xs
-eight_back [] e = absurd (omega arith)
-eight_back (a ∷ []) e = absurd (omega arith)
-eight_back (a ∷ b ∷ []) e = absurd (omega arith)
-eight_back (a ∷ b ∷ c ∷ []) e = absurd (omega arith)
-eight_back (a ∷ b ∷ c ∷ d ∷ []) e = absurd (omega arith)
-eight_back (a ∷ b ∷ c ∷ d ∷ f ∷ []) e = absurd (omega arith)
-eight_back (a ∷ b ∷ c ∷ d ∷ f ∷ g ∷ []) e = absurd (omega arith)
-eight_back (a ∷ b ∷ c ∷ d ∷ f ∷ g ∷ h ∷ []) e = absurd (omega arith)
-eight_back (a ∷ b ∷ c ∷ d ∷ f ∷ g ∷ h ∷ i ∷ []) e = refl
-eight_back (a ∷ b ∷ c ∷ d ∷ f ∷ g ∷ h ∷ i ∷ j ∷ xs) e = absurd (omega arith)
 
 -- Terms that are read have eight places.
 pub eight_read : (w : List ℕ) (place : ℕ) → length (terms_at w place).nameplates ≡ most_nameplates

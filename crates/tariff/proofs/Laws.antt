@@ -6,13 +6,13 @@ use Prim.Native.Nat.{ℕ, zero, suc, ◌-◌, ◌^◌, ◌≤◌, ◌<◌, min}
 use native.Mathlib.Omega.{arith}
 use borrow.Author.Tests.{ltb-false, le-leb, lt-leb, leb-true, leb-false}
 use lib.Dec.{leb, ltb}
-use lib.ListN.{get_or}
+use lib.ListN.{length, get_or}
 use Rattle.std.proofs.lemmas.Bool.{or_parts}
 use Rattle.tariff.specs.declared.Class.{Class}
 use Rattle.tariff.specs.declared.Class.TheVariants.{Home, Business}
 use Rattle.tariff.specs.declared.Terms.{Terms}
 use Rattle.tariff.specs.declared.PriceList.{PriceList}
-use Rattle.tariff.specs.Tariff.{price_limit, amount_limit, some_over, nine_prices, prices_rise, prices_refused}
+use Rattle.tariff.specs.Tariff.{price_limit, amount_limit, some_over, nine_prices, prices_rise, prices_refused, most_nameplates, eight_at}
 use Rattle.tariff.specs.Tariff.{total_nameplate, some_below_one, class_limit, capacity_limit, capacity_refused}
 
 -- Where no number is above the limit, each is at most the limit.
@@ -69,6 +69,19 @@ within_limits l h =
       offpeak_falls = ltb-false _ _ two;
       discount_falls = ltb-false _ _ third;
     }
+
+-- Of eight numbers the eight from the front are all.
+pub eight_back : (xs : List ℕ) → length xs ≡ most_nameplates → eight_at xs 0 0 ≡ xs
+eight_back [] e = absurd (omega arith)
+eight_back (a ∷ []) e = absurd (omega arith)
+eight_back (a ∷ b ∷ []) e = absurd (omega arith)
+eight_back (a ∷ b ∷ c ∷ []) e = absurd (omega arith)
+eight_back (a ∷ b ∷ c ∷ d ∷ []) e = absurd (omega arith)
+eight_back (a ∷ b ∷ c ∷ d ∷ f ∷ []) e = absurd (omega arith)
+eight_back (a ∷ b ∷ c ∷ d ∷ f ∷ g ∷ []) e = absurd (omega arith)
+eight_back (a ∷ b ∷ c ∷ d ∷ f ∷ g ∷ h ∷ []) e = absurd (omega arith)
+eight_back (a ∷ b ∷ c ∷ d ∷ f ∷ g ∷ h ∷ i ∷ []) e = refl
+eight_back (a ∷ b ∷ c ∷ d ∷ f ∷ g ∷ h ∷ i ∷ j ∷ xs) e = absurd (omega arith)
 
 -- No limit beside the demand limit is above that of a business.
 class_limit-le : (k : Class) → class_limit k ≤ class_limit Business
