@@ -5,12 +5,13 @@ use mathlib.Core.List.{List, [], ◌∷◌, ◌++◌, append-nil}
 use mathlib.Core.Logic.{◌⊎◌}
 use Prim.Native.Nat.{ℕ, ◌+◌, ◌*◌, ◌≤◌, ◌<◌}
 use native.Mathlib.Omega.{arith}
-use borrow.Author.Tests.{eq-eqb, eqb-true, not-false}
+use borrow.Author.Tests.{eq-eqb}
 use lib.Dec.{eqb}
 use lib.ListN.{length, take, drop, length-append, length-drop, take-append-drop}
 use lib.Seq.{take_all, drop-drop, length-take-le}
 use Rattle.std.proofs.lemmas.Bool.{and_parts}
 use Rattle.hours.specs.Schedules.{schedule_length, is_entry, all_entries, schedule_refused}
+use Rattle.hours.proofs.Packed.{accepted_schedule}
 use Rattle.text.specs.Text.{lines_from}
 use Rattle.text.proofs.Laws.{Plain, line_first, line_last}
 use Rattle.grammar.specs.Grammar.{keyed}
@@ -78,19 +79,12 @@ parts s h =
     (rw (← (drop-drop 96 192 s), take-append-drop 96 (drop 192 s), ← (drop-drop 96 96 s), take-append-drop 96 (drop 96 s), take-append-drop 96 s))
 
 -- A schedule that is written as a text is loaded.
-sound : (s : List ℕ) → schedule_refused s ≡ false → (length s ≡ 384) × (all_entries s ≡ true)
-unfolding schedule_refused
-sound s h =
-    let both = and_parts (eqb (length s) 384) (all_entries s) (not-false _ h) in
-    (eqb-true (length s) 384 both.0, both.1)
-
 written : (s table end : List ℕ) → schedule_refused s ≡ false → length table ≡ schedule_length
     → ((l : List ℕ) → Plain l → 0 < length l → lines_from [] (l ++ end) ≡ l ∷ [])
     → (load_number (text_of s ++ end) table ≡ 0) × (table_after (text_of s ++ end) table ≡ s)
 unfolding text_of
 written s table end h k last =
-    let long = (sound s h).0 in
-    let all = (sound s h).1 in
+    let (long, all) = accepted_schedule s h in
     let first = full 0 s all (omega arith) in
     let second = full 96 s all (omega arith) in
     let third = full 192 s all (omega arith) in

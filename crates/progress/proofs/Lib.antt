@@ -1,5 +1,5 @@
 mod Expecting
 mod Storing
-mod Lines
+pub mod Lines
 mod Kept
 pub mod RunLines

@@ -13,11 +13,11 @@ use Rattle.printing.specs.Writing.{fits, has_room, Wrote, Put}
 use Rattle.lines.specs.Statement.{State, line_read, at_end}
 use Rattle.progress.specs.Progressing.{state_of, Reads}
 use Rattle.progress.specs.declared.Progress.{Progress}
+use Rattle.progress.proofs.Lines.{held_same}
 use Rattle.lines.specs.Feeding.{SoFar, ending, state_at_end}
 use Rattle.session.specs.declared.Session.{Session}
 use Rattle.session.specs.Sessions.{so_far_of, registers_of, registers_at_end, Finishes}
 use Rattle.lines.proofs.Lengths.{text_fits, end_fits}
-use Rattle.session.proofs.Turns.{in_front}
 use Rattle.printing.proofs.Writing.{then, wrote_part}
 
 -- Without room nothing is written.
@@ -53,7 +53,7 @@ pub finish_whole : (x : Session) (out out_later : List ℕ) (j : ℕ) → length
 finish_whole x out out_later j none h p =
     let text = whole_end (so_far_of x) none in
     let room = room_here out 0 (omega arith) in
-    wrote_all h (rw text (omega (arith, end_fits (state_of x.progress)))) refl (rw (whole_state (so_far_of x) none) (in_front x.progress))
+    wrote_all h (rw text (omega (arith, end_fits (state_of x.progress)))) refl (rw (whole_state (so_far_of x) none) (held_same x.progress))
     (rw text (record { bytes = rw room at p.bytes; end = rw room at p.end }))
 
 -- A line is empty or has a byte.

@@ -12,6 +12,7 @@ use Rattle.text.specs.Text.{place_of}
 use Rattle.lines.specs.Statement.{State, Outcome, counted, line_read}
 use Rattle.progress.specs.declared.Progress.{Progress}
 use Rattle.progress.specs.Progressing.{state_of, registers_held, line_at, is_run_expected, runs_bytes, runs_state, RunsRead}
+use Rattle.progress.proofs.Lines.{held_same}
 use Rattle.progress.proofs.RunLines.{expected_newline, run_read_lem, run_quiet, bytes_none, state_none, bytes_more, state_more}
 use Rattle.lines.specs.Feeding.{kept_bytes, SoFar, after, printed, taken_of, Registers, with_readings, registers_after}
 use Rattle.session.specs.declared.Session.{Session}
@@ -22,7 +23,7 @@ use Rattle.lines.proofs.Lengths.{line_cut}
 use Rattle.lines.proofs.Buffers.{readings_again, readings_over, cut_registers}
 use Rattle.session.proofs.Taking.{bytes_some, bytes_within, bytes_place, newline_last}
 use Rattle.session.proofs.Taking.{front_text, front_state, line_taken, line_text_lem}
-use Rattle.session.proofs.Turns.{in_front, after_newline, printed_newline, line_registers}
+use Rattle.session.proofs.Turns.{after_newline, printed_newline, line_registers}
 
 -- One line is some bytes.
 pub takes_line : {before later : SoFar} {r q : Registers} {input out out_later : List ℕ} {i taken j : ℕ}
@@ -140,7 +141,7 @@ module _ (x : Session) (later : Progress) (input out : List ℕ) (i taken : ℕ)
         some = λ _. omega (arith, h);
         inside = k.inside;
         stands = sym k.state;
-        registers = w.registers ∙ sym (k.registers (registers_of x) (in_front x.progress));
+        registers = w.registers ∙ sym (k.registers (registers_of x) (held_same x.progress));
         text = rw text (record { bytes = refl; end = omega arith });
         short = rw text (omega arith);
         rest = λ room h. rw (text, sub-zero room) (k.rest room h);
@@ -158,5 +159,5 @@ module _ (x : Session) (later : Progress) (input out : List ℕ) (i taken : ℕ)
       → TakesSome (so_far_of x) (registers_of x) input out i t next q j out_later
   takes_none h made =
       let registers : registers_held later ≡ registers_of x
-      = w.registers ∙ rw (same_state h) (sym (in_front x.progress)) in
+      = w.registers ∙ rw (same_state h) (sym (held_same x.progress)) in
       takes_line (rw (same_state h, registers) at made)

@@ -11,18 +11,15 @@ use Rattle.printing.specs.Writing.{has_room}
 use Rattle.lines.specs.Statement.{line_read}
 use Rattle.progress.specs.declared.Progress.{Progress}
 use Rattle.progress.specs.Progressing.{state_of, registers_held, Reads}
+use Rattle.progress.proofs.Lines.{held_same}
 use Rattle.lines.specs.Feeding.{SoFar, after_byte, byte_text, after, printed, Registers, with_readings, registers_after}
 use Rattle.session.specs.declared.Session.{Session}
 use Rattle.session.specs.Sessions.{so_far_of, registers_of}
 use Rattle.session.specs.Taking.{kept_of, Keeps, held, TakesBytes, TakesLine}
 use Rattle.text.proofs.Laws.{place_within}
-use Rattle.lines.proofs.Buffers.{readings_same, cut_registers}
+use Rattle.lines.proofs.Buffers.{cut_registers}
 use Rattle.lines.proofs.Streams.{cut_text, cut_state, newline_state, newline_text, other_state}
 use Rattle.session.proofs.Taking.{bytes_all, bytes_place, newline_last, front_text, front_state}
-
--- The month's readings stand at the front of the registers.
-pub in_front : (x : Progress) → registers_held x ≡ with_readings (state_of x) (registers_held x)
-in_front x = readings_same (state_of x) x.readings.count x.readings.delivered x.readings.received refl refl
 
 -- The newline.
 pub after_newline : (x : SoFar) (front : List ℕ) → after x (front ++ 10 ∷ []) ≡ after_byte (after x front) 10
@@ -67,7 +64,7 @@ module _ (x y : Session) (input out : List ℕ) (e i : ℕ) (p : e ≡ place_of 
   pub all_held : e ≡ length input → TakesLine x input out i e y i out
   all_held q =
       let registers : registers_after (so_far_of x) (take e input) (registers_of x) ≡ registers_of x
-      = rw p (front_registers (so_far_of x) input (registers_of x) (in_front x.progress)) in
+      = rw p (front_registers (so_far_of x) input (registers_of x) (held_same x.progress)) in
       record {
         takes = q ∙ sym (bytes_all input (sym p ∙ q));
         stands = sym (rw (k.line, k.progress) state);
@@ -91,7 +88,7 @@ module _ (x y : Session) (input out : List ℕ) (e i : ℕ) (p : e ≡ place_of 
       = rw (all, after_newline (so_far_of x) (take e input), state) (newline_state whole 10 refl ∙ ap (held []) (sym read)) in
       let registers : registers_after (so_far_of x) (take (e + 1) input) (registers_of x)
       ≡ with_readings (after (so_far_of x) (take (e + 1) input)).state (registers_of x)
-      = rw p (line_registers (so_far_of x) input (registers_of x) short (in_front x.progress)) in
+      = rw p (line_registers (so_far_of x) input (registers_of x) short (held_same x.progress)) in
       record {
         takes = ap (λ (m : ℕ). m + 1) p ∙ sym (bytes_place input short);
         stands = rw empty (sym after_is);
