@@ -9,7 +9,7 @@ use borrow.Author.Tests.{lt-ltb, le-ltb, le-leb, lt-leb, leb-true, leb-false, no
 use borrow.Rule.Slice.PartMut.{put_mid}
 use lib.Dec.{leb, ltb, lit≤}
 use lib.ListN.{length, set, take, drop, length-append, length-drop, take-append-drop, drop_of_length-le}
-use lib.Seq.{sets}
+use lib.Seq.{sets, take-append_seam}
 use Rattle.std.specs.Fmt.{decimal as std_decimal}
 use Rattle.std.proofs.lemmas.Fmt.{AppendsLastDigit, decimal_from_appends, length-decimal-le}
 use Rattle.std.proofs.lemmas.List.{length-take-le, set-append_right, take_rest}
@@ -55,6 +55,12 @@ std_digits n h = sym (decimal_from_appends digits appends 20 n h (length-decimal
 pub wrote_front : {o xs copy text : List ℕ} → copy ≡ text → text ≡ xs → length xs ≤ length o
     → Wrote o 0 xs (copy ++ drop (length text) o) (length text)
 wrote_front {o} {xs} d e h = rw (d, e) record { bytes = sym (rw zero-add at (sets-eq xs o 0 (omega arith))); end = omega arith }
+
+-- What was written to the front of a buffer stands there, where it fits.
+pub front_is : {o xs o_later : List ℕ} {n : ℕ} → Wrote o 0 xs o_later n → n ≤ length o → take n o_later ≡ xs
+front_is {o} {xs} {n = n} w h =
+    let e : n ≡ length xs = omega (arith, w.end) in
+    rw (w.bytes, e, sets-eq xs o 0 (omega arith)) (take-append_seam xs (drop (0 + length xs) o))
 
 -- A text behind others is stored in what follows them.
 sets_behind : (xs a b : List ℕ) (k : ℕ) → sets (a ++ b) (length a + k) xs ≡ a ++ sets b k xs

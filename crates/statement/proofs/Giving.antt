@@ -1,15 +1,16 @@
 -- The bytes that were read, given to a session piece by piece, and the status after what they print.
 use mathlib.Core.Path.{◌≡◌, refl, sym, ◌∙◌, subst}
 use Rattle.std.specs.Prelude.{Result}
-use mathlib.Core.Bool.{Bool, false, false≢true, cond}
+use mathlib.Core.Bool.{cond}
 use mathlib.Core.List.{List, [], ◌∷◌, ◌++◌}
-use Prim.Native.Nat.{ℕ, zero, suc, ◌+◌, ◌≤◌, ◌<◌}
+use Prim.Native.Nat.{ℕ, ◌+◌, ◌≤◌, ◌<◌}
 use native.Mathlib.Omega.{arith}
 use borrow.Author.Tests.{le-leb}
-use lib.Dec.{eqb, leb}
+use lib.Dec.{leb}
 use lib.ListN.{length, take, drop, take-append-drop}
-use lib.Seq.{sets, sets-eq, take-append_seam}
+use lib.Seq.{sets}
 use Rattle.printing.specs.Writing.{Wrote}
+use Rattle.printing.proofs.Writing.{front_is}
 use Rattle.lines.specs.Feeding.{SoFar, after, printed, ending, taken_of}
 use Rattle.lines.proofs.Streams.{cut_text, cut_state, taken_some}
 use Rattle.session.specs.declared.Session.{Session}
@@ -28,12 +29,6 @@ pub told_cut : (s : ℕ) (x : SoFar) (bytes more : List ℕ)
 told_cut s x bytes more =
     sym (status_cut s (printed x bytes) (printed (after x bytes) more) (printed_ends x bytes)) ∙ rw (cut_text x bytes more)
 
--- The front of a buffer is what was written to it.
-front_is : {out text out_later : List ℕ} {written : ℕ} → Wrote out 0 text out_later written → written ≤ length out → take written out_later ≡ text
-front_is {out} {text} {out_later} {written} w h =
-    let e : written ≡ length text = omega (arith, w.end) in
-    rw (w.bytes, e, sets-eq text out 0 (omega arith)) (take-append_seam text (drop (0 + length text) out))
-
 -- What is left of the bytes leads from the session and the status so far to those after all.
 pub record GivenSoFar (before : SoFar) (first : ℕ) (input rest : List ℕ) (current : SoFar) (status : ℕ) : Type 0 where
   pub stands : after current rest ≡ after before input
@@ -41,10 +36,6 @@ pub record GivenSoFar (before : SoFar) (first : ℕ) (input rest : List ℕ) (cu
 
 pub given_none : (before : SoFar) (status : ℕ) (input : List ℕ) → GivenSoFar before status input input before status
 given_none before status input = record { stands = refl; tells = refl }
-
-pub some_left : {b : Bool} (n : ℕ) → b ≡ eqb n 0 → b ≡ false → 0 < n
-some_left zero e f = absurd (false≢true (sym f ∙ e))
-some_left (suc n) e f = omega arith
 
 -- A session is fed with what is left: it takes some of it where there is room enough,
 pub given_some : (current : SoFar) (rest out : List ℕ) {taken : ℕ} → least_room ≤ length out → 0 < length rest

@@ -9,6 +9,7 @@ use lib.Dec.{leb}
 use lib.ListN.{length, take, length-append}
 use lib.Seq.{sets, length-sets, length-take-le, take-take}
 use Rattle.printing.specs.Writing.{Wrote}
+use Rattle.printing.proofs.Writing.{front_is}
 use Rattle.lines.specs.Statement.{last_number}
 use Rattle.lines.specs.Feeding.{ending}
 use Rattle.lines.proofs.Streams.{taken_some}
@@ -16,7 +17,6 @@ use Rattle.session.specs.declared.Session.{Session}
 use Rattle.session.specs.Sessions.{so_far_of, least_room, Feeds, Finishes}
 use Rattle.whole.specs.Adding.{Adds, FeedsSome}
 use Rattle.text.proofs.Lists.{sets-append, sets-out}
-use Rattle.whole.proofs.Writing.{front}
 
 -- A place that stays at the largest number is past the end, as the place further on would be.
 past_end : (out xs : List ℕ) (i : ℕ) → length out ≤ last_number → sets out (min i last_number) xs ≡ sets out i xs
@@ -38,13 +38,6 @@ then {text} {text1} {text2} {xs} {ys} {i} h p q =
       end = let e = p.end in let f = q.end in rw length-append (omega arith);
     }
 
--- The front of a chunk is what was written to it.
-chunk_front : {chunk part chunk_later : List ℕ} {written : ℕ} → Wrote chunk 0 part chunk_later written → written ≤ length chunk
-    → take written chunk_later ≡ part
-chunk_front {chunk} {part} {chunk_later} {written} w h =
-    let e : written ≡ length part = omega (arith, w.end) in
-    rw (w.bytes, e) (front chunk part (omega arith))
-
 module _ (x : Session) {y : Session} {chunk chunk_later text text_later : List ℕ} {i j written : ℕ} (room : least_room ≤ length chunk)
     (a : Adds text i (take written chunk_later) text_later j) where
   -- A session is fed a piece, and what it wrote is added. With so much room it takes some bytes.
@@ -59,7 +52,7 @@ module _ (x : Session) {y : Session} {chunk chunk_later text text_later : List �
         some = λ h. omega (arith, takes, taken_some (length chunk) (so_far_of x) (take piece input) (omega arith) (omega arith));
         inside = omega arith;
         stands = rw bytes at f.stands;
-        adds = rw bytes at (rw (chunk_front f.text f.fits) at a);
+        adds = rw bytes at (rw (front_is f.text f.fits) at a);
       }
 
   -- The end of the input likewise.
@@ -69,4 +62,4 @@ module _ (x : Session) {y : Session} {chunk chunk_later text text_later : List �
       let bytes : chunk_later ≡ sets chunk 0 (ending (so_far_of x)) = rw yes at f.bytes in
       let long : written ≡ length (ending (so_far_of x)) = rw yes at f.end in
       let wrote : Wrote chunk 0 (ending (so_far_of x)) chunk_later written = record { bytes = bytes; end = omega arith } in
-      rw (chunk_front wrote f.fits) at a
+      rw (front_is wrote f.fits) at a

@@ -1,9 +1,8 @@
 -- What is still to be added of the text.
 use mathlib.Core.Path.{◌≡◌, refl, sym, ◌∙◌, ap}
-use mathlib.Core.Bool.{Bool, true, false, false≢true}
-use lib.Dec.{eqb}
-use mathlib.Core.List.{List, [], ◌∷◌, ◌++◌, append_assoc}
-use Prim.Native.Nat.{ℕ, zero, suc, ◌≤◌, ◌<◌}
+use mathlib.Core.Bool.{true}
+use mathlib.Core.List.{List, ◌++◌, append_assoc}
+use Prim.Native.Nat.{ℕ, ◌≤◌}
 use native.Mathlib.Omega.{arith}
 use lib.ListN.{length, take, drop, take-append-drop}
 use lib.Seq.{sets, length-sets}
@@ -14,11 +13,6 @@ use Rattle.lines.proofs.Streams.{streams, cut_text, cut_state}
 use Rattle.whole.specs.Adding.{Adds, FeedsSome}
 use Rattle.whole.specs.Whole.{length_of}
 use Rattle.whole.proofs.Adding.{then}
-
--- Some bytes are left.
-pub some_left : {b : Bool} (n : ℕ) → b ≡ eqb n 0 → b ≡ false → 0 < n
-some_left zero e f = absurd (false≢true (sym f ∙ e))
-some_left (suc n) e f = omega arith
 
 -- What is printed from here on.
 abbrev left : SoFar → List ℕ → List ℕ

@@ -2,13 +2,13 @@
 use Rattle.std.proofs.Common.{rules, arith, length, length-drop}
 use Rattle.session.specs.Sessions.{so_far_of}
 use Rattle.std.proofs.lemmas.List.{take_rest}
-use Rattle.statement.proofs.Giving.{some_left, given_some, given_more, given_all}
+use Rattle.statement.proofs.Giving.{given_some, given_more, given_all}
 use Rattle.statement.proofs.give.Goals as goal
 
 pub loop-rest-smaller : goal.loop-rest-smaller
 loop-rest-smaller c = let loop = c.loop-rest in
     let rest = loop.rest.now in
-    let some = some_left (length rest) c.is_empty.ensures c.loop-rest-test.true in
+    let some : 0 < length rest = search rules in
     let taken = given_some (so_far_of loop.session) rest loop.out (omega (arith, c.requires, loop.invariant.same_room)) some c.feed-fed.ensures.takes in
     rw (take_rest rest c.feed-fed.result.taken) (omega (arith, length-drop c.feed-fed.result.taken rest))
 

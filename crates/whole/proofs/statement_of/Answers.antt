@@ -1,8 +1,8 @@
 -- `whole::statement_of` feeds a session until it has taken all or is stopped: `Going` has the steps.
-use Rattle.std.proofs.Common.{rules, arith, sym, ◌∙◌, length, length-drop}
+use Rattle.std.proofs.Common.{rules, arith, sym, ◌∙◌, length-drop}
 use Rattle.session.specs.Sessions.{so_far_of}
 use Rattle.std.proofs.lemmas.List.{take_rest}
-use Rattle.whole.proofs.Going.{some_left, going_start, going_more, going_stopped, going_all, whole_long}
+use Rattle.whole.proofs.Going.{going_start, going_more, going_stopped, going_all, whole_long}
 use Rattle.whole.proofs.statement_of.Goals as goal
 
 pub loop-rest-init : goal.loop-rest-init
@@ -11,7 +11,7 @@ loop-rest-init c = going_start _ _ _ c.start-session.ensures
 pub loop-rest-smaller : goal.loop-rest-smaller
 loop-rest-smaller c = let rest = c.loop-rest.rest.now in
     let fed = c.feed_some-fed in
-    let taken = fed.ensures.some (some_left (length rest) c.is_empty.ensures c.loop-rest-test.true) in
+    let taken = fed.ensures.some (search rules) in
     rw (take_rest rest fed.result.taken) (omega (arith, length-drop fed.result.taken rest))
 
 pub loop-rest-preserved : goal.loop-rest-preserved
