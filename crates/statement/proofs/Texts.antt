@@ -1,19 +1,17 @@
 -- What is printed are whole lines.
 use mathlib.Core.Path.{◌≡◌, refl, ◌∙◌}
-use mathlib.Core.Bool.{Bool, true, false, cond, not}
+use mathlib.Core.Bool.{Bool, true, false, cond}
 use mathlib.Core.List.{List, [], ◌∷◌, ◌++◌}
-use Prim.Native.Nat.{ℕ, ◌+◌}
+use Prim.Native.Nat.{ℕ}
 use native.Mathlib.Omega.{arith}
 use borrow.Author.Tests.{eqb-true}
-use lib.Dec.{eqb, ltb}
-use lib.ListN.{length, get_or}
+use lib.Dec.{eqb}
+use Rattle.std.proofs.lemmas.Bool.{cond_both}
 use Rattle.text.specs.Text.{bytes_of}
 use Rattle.billing.specs.declared.Bill.{Bill}
-use Rattle.grammar.specs.Grammar.{opening_line, bill_line, critical_line, run_line}
 use Rattle.printing.specs.Text.{decimal, mark, filled_in}
 use Rattle.printing.specs.Printing.{bill_template, bill_text, open_text, line_text}
-use Rattle.lines.specs.Statement.{State, Outcome, counted, fault, opened, opening_read, bill_read, critical_read, run_read, month_end, run_or_bill_read}
-use Rattle.lines.specs.Statement.{expected_read, line_read, bill_expected, critical_expected, run_expected, outcome, is_unreadable}
+use Rattle.lines.proofs.Printed.{OfTexts, line_prints}
 use Rattle.lines.specs.Feeding.{SoFar, after_byte, byte_text, printed}
 
 -- Whether a text ends with a newline; one without a byte does where the text before it did.
@@ -64,66 +62,15 @@ unfolding line_text ends_line
 line_ends n = filled_ends (bytes_of "line=#\n") _ true true refl (λ f. f)
 
 -- A line prints one of these, or nothing.
-record Whole (x : Outcome) : Type 0 where
-  pub ends : ends_line true x.text ≡ true
-
-either : (t : Bool) {x y : Outcome} → Whole x → Whole y → Whole (cond t x y)
-either true p q = p
-either false p q = q
-
-none : (s : State) → Whole (outcome [] s)
+texts_end : OfTexts (λ (t : List ℕ). ends_line true t ≡ true)
 unfolding ends_line
-none s = record { ends = refl }
-
-stop_whole : (s : State) → Whole (fault s)
-unfolding fault
-stop_whole s = record { ends = line_ends s.lines }
-
-opened_whole : (s : State) → Whole (opened s)
-unfolding opened
-opened_whole s = record { ends = open_ends _ }
-
-month_ends : (s : State) → ends_line true (month_end s).text ≡ true
-unfolding month_end
-month_ends s = bill_ends _ _ _
-
-opening_whole : (v : List ℕ) (s : State) → Whole (opening_read v s)
-unfolding opening_read
-opening_whole v s = either (is_unreadable v) (stop_whole s) (either (ltb s.expected 13) (none _) (opened_whole _))
-
-month_line_whole : (v : List ℕ) (s : State) → Whole (bill_read v s)
-unfolding bill_read
-month_line_whole v s = either (is_unreadable v) (stop_whole s) (none _)
-
-critical_whole : (v : List ℕ) (s : State) → Whole (critical_read v s)
-unfolding critical_read
-critical_whole v s = either (is_unreadable v) (stop_whole s) (none _)
-
-run_whole : (n d e : ℕ) (s : State) → Whole (run_read n d e s)
-unfolding run_read
-run_whole n d e s = either (ltb 2976 (length s.entered.delivered + n)) (stop_whole s) (none _)
-
-later_whole : (l : List ℕ) (s : State) → Whole (run_or_bill_read l s)
-unfolding run_or_bill_read
-later_whole l s =
-    either (not (is_unreadable (run_line l))) (run_whole (get_or (run_line l) 0 0) (get_or (run_line l) 1 0) (get_or (run_line l) 2 0) s)
-    (either (is_unreadable (bill_line l)) (stop_whole s) (record { ends = month_ends s }))
-
-expected_whole : (l : List ℕ) (s : State) → Whole (expected_read l s)
-unfolding expected_read
-expected_whole l s =
-    either (ltb s.expected bill_expected) (opening_whole (opening_line s.expected l) s)
-    (either (eqb s.expected bill_expected) (month_line_whole (bill_line l) s)
-    (either (eqb s.expected critical_expected) (critical_whole (critical_line l) s) (either (eqb s.expected run_expected) (later_whole l s) (none s))))
+texts_end = record { none = refl; opening = open_ends; month = bill_ends; stop = line_ends }
 
 -- So does a byte, and so do bytes.
 byte_ends : (x : SoFar) (b : ℕ) → ends_line true (byte_text x b) ≡ true
-unfolding byte_text line_read ends_line
-byte_ends x b = by (eqb b 10) (expected_whole x.line (counted x.state)).ends
-  where
-    by : (t : Bool) → ends_line true (line_read x.line x.state).text ≡ true → ends_line true (cond t (line_read x.line x.state).text []) ≡ true
-    by true h = h
-    by false h = refl
+unfolding byte_text ends_line
+byte_ends x b =
+    cond_both (eqb b 10) _ _ (λ (t : List ℕ). ends_line true t ≡ true) (λ _. line_prints texts_end x.line x.state) (λ _. refl)
 
 pub printed_ends : (x : SoFar) (bytes : List ℕ) → ends_line true (printed x bytes) ≡ true
 unfolding printed ends_line
