@@ -80,7 +80,8 @@ impl<T> Reply<T> {
     }
 }
 
-// What is wrong with a billing, from the tallies of its registers, which have the month's length, and whether its critical days are refused.
+// What is wrong with a billing, from the tallies of its registers, and whether its critical days are refused. Row 8 never applies here: a register of
+// another length than the month's has no tally, and `bill` refuses it where it asks for one.
 fn faults_of(delivered: Tally, received: Tally, wrongdays: bool) -> Faults
     ensures { result ≡ faults_from delivered received wrongdays }
 {
@@ -94,8 +95,8 @@ fn faults_of(delivered: Tally, received: Tally, wrongdays: bool) -> Faults
 
 // The calls take an account by value and hand it back in the reply, as a rule of the project asks.
 impl Account {
-    // The account that a list of calls starts from. Its zeros stand in full, as in the definition: derived defaults of terms and prices would name a rider
-    // and a class beside them.
+    // The account that a list of calls starts from. Its terms stand in full, as in the definition: a derived default of terms would name a rider and a
+    // class beside it.
     pub fn fresh() -> Account
         ensures { result ≡ fresh_account }
     {
@@ -109,16 +110,7 @@ impl Account {
                 limit: 0,
                 assisted: false,
             },
-            prices: PriceList {
-                energy: ByPeriod::default(),
-                demand: 0,
-                standby: 0,
-                bypass: 0,
-                credit: 0,
-                distribution: 0,
-                basic: 0,
-                minimum: 0,
-            },
+            prices: PriceList::default(),
             next: 0,
             carried: ByPeriod::default(),
             standing: 0,

@@ -129,7 +129,8 @@ pub extern "C" fn kozempil_call(
     1
 }
 
-// Where the day view is in the register named: its start and length, both 0 where it is empty.
+// Where the day view is in the register named: its start and length, both 0 where it is empty. They are reckoned here again, since `registers::day_view`
+// lends the part itself, which doesn't say where in its register it starts.
 #[unsafe(no_mangle)]
 pub extern "C" fn kozempil_day_view(
     delivered: &[u32],

@@ -33,7 +33,8 @@ impl From<Refusal> for u32 {
     }
 }
 
-// What the first rows ask of an account: whether it is fresh, whether it is open, and whether it is one that no call can use.
+// What the first rows ask of an account: whether it is fresh, whether it is open, and whether it is one that no call can use. They are flags and no
+// stage: each is what one row of the table asks, and no row asks which stage it is.
 #[derive(Clone, Copy, Debug, PartialEq, Eq)]
 pub struct Condition {
     pub fresh: bool,

@@ -72,7 +72,7 @@ pub struct Terms {
 }
 
 // Prices are in hundred-thousandths of a dollar per kWh or per kW, basic and minimum in cents. Bypass is the non-bypassable charge.
-#[derive(Clone, Copy)]
+#[derive(Clone, Copy, Default)]
 pub struct PriceList {
     pub energy: ByPeriod,
     pub demand: u64,
