@@ -2,7 +2,7 @@
 use Rattle.std.specs.Result.{result_unwrap_or}
 use Rattle.billing.specs.Billing.{no_bill}
 use Rattle.billing.specs.declared.Bill.{Bill}
-use Rattle.refusals.specs.Numbers.{number_of}
+pub use Rattle.refusals.specs.Numbers.{number_of}
 use Rattle.account.specs.declared.ClosingAmounts.{ClosingAmounts}
 use Rattle.account.specs.declared.Reply.{Reply}
 use Rattle.account.specs.Account.{PlainReply, BillingReply, ClosingReply, no_amounts}

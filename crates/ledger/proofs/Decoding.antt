@@ -1,5 +1,7 @@
 -- How records are read one after the other: a record that is a call takes its readings from the front of what is left of the registers.
-use Rattle.std.proofs.Common.{◌≡◌, ℕ, suc, ◌≤◌, ◌<◌, ◌/◌, true, false, List, [], ◌∷◌, length, take, drop, arith, length-drop}
+use Rattle.std.proofs.Common.{◌≡◌, ◌∙◌, sym, refl, ℕ, zero, suc, ◌+◌, ◌*◌, ◌≤◌, ◌<◌, ◌/◌, true, false, List, [], ◌∷◌, length, take, drop, slice_index_or, arith, length-drop}
+use Rattle.std.proofs.lemmas.List.{drop-drop}
+use Rattle.std.specs.Simd.{first_chunks}
 use Rattle.records.specs.Records.{record_length, delivered_place, received_place, count_at, is_call}
 use Rattle.ledger.specs.Encoding.{call_of, decode, calls_in}
 
@@ -28,3 +30,29 @@ module _ (ws delivered received : List ℕ) where
   calls_next h e =
       let n : length ws / record_length ≡ suc (length (drop record_length ws) / record_length) = omega (arith, length-drop record_length ws) in
       rw (n, e)
+
+-- The records that are lent, each as a chunk: which numbers it has, and what is left before and after it.
+module _ (ws : List ℕ) where
+  pub left_after : (n : ℕ) → drop (record_length * (n + 1)) ws ≡ drop record_length (drop (record_length * n) ws)
+  left_after n =
+      let e : record_length * (n + 1) ≡ record_length * n + record_length = omega arith in
+      rw e (sym (drop-drop record_length (record_length * n) ws))
+
+  pub left_long : (n : ℕ) → n < length ws / record_length → record_length ≤ length (drop (record_length * n) ws)
+  left_long n h = omega (arith, length-drop (record_length * n) ws)
+
+  pub left_short : (n : ℕ) → length ws / record_length ≤ n → length (drop (record_length * n) ws) < record_length
+  left_short n h = omega (arith, length-drop (record_length * n) ws)
+
+chunk_at : (k n : ℕ) (ws : List ℕ) → n < k
+    → slice_index_or (first_chunks record_length k ws) n [] ≡ take record_length (drop (record_length * n) ws)
+chunk_at zero n ws h = absurd (omega arith)
+chunk_at (suc k) zero ws h = refl
+chunk_at (suc k) (suc n) ws h =
+    let e : record_length * suc n ≡ record_length + record_length * n = omega arith in
+    chunk_at k n (drop record_length ws) (omega arith) ∙ rw (e, drop-drop (record_length * n) record_length ws)
+
+pub record_at : (n : ℕ) (ws : List ℕ) (chunks : List (List ℕ)) → n < length ws / record_length
+    → chunks ≡ first_chunks record_length (length ws / record_length) ws
+    → slice_index_or chunks n [] ≡ take record_length (drop (record_length * n) ws)
+record_at n ws chunks h e = rw e (chunk_at (length ws / record_length) n ws h)

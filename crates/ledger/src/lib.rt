@@ -2,11 +2,12 @@
 #![tactic(auto)]
 
 ghost use Rattle.std.specs.Prelude.{◌≡◌};
+ghost use Rattle.account.specs.Replies.{number_of};
 ghost use Rattle.ledger.specs.Encoding.{answered_of};
 ghost use Rattle.ledger.specs.DemandThree.{DemandThree};
 ghost use Rattle.ledger.specs.Running.{step_of, with_readings, ran_to};
 
-use account::Account;
+use account::{Account, Reply};
 use records::{Answer, Call};
 
 // The answer to a call, and the account after it.
@@ -24,6 +25,22 @@ pub struct Ran {
     pub written: u64,
 }
 
+// What a reply says, with the amounts that it returns.
+fn from_reply<T: Copy>(reply: Reply<T>, amounts: Answer) -> Answered
+    ensures account { result.account ≡ reply.account }
+    ensures number { result.answer.number ≡ number_of reply.answer }
+    ensures bill { result.answer.bill ≡ amounts.bill }
+    ensures amounts { result.answer.amounts ≡ amounts.amounts }
+{
+    Answered {
+        account: reply.account,
+        answer: Answer {
+            number: reply.number(),
+            ..amounts
+        },
+    }
+}
+
 // The answer to a call with the readings of a billing.
 #[tactic(auto, unfolding(crate::specs::Running::step_of, balances::specs::Calls::answer_of, balances::specs::Calls::account_after))]
 fn answer_call(account: Account, call: Call, delivered: &[u32], received: &[u32]) -> Answered
@@ -31,50 +48,28 @@ fn answer_call(account: Account, call: Call, delivered: &[u32], received: &[u32]
 {
     match call {
         Call::Opening { agreement, month } => {
-            let opened = account.opening(agreement, month);
-            Answered {
-                account: opened.account,
-                answer: Answer {
-                    number: opened.number(),
-                    ..Answer::default()
-                },
-            }
+            from_reply(account.opening(agreement, month), Answer::default())
         }
-        Call::Repricing { prices } => {
-            let repriced = account.repricing(prices);
-            Answered {
-                account: repriced.account,
-                answer: Answer {
-                    number: repriced.number(),
-                    ..Answer::default()
-                },
-            }
-        }
+        Call::Repricing { prices } => from_reply(account.repricing(prices), Answer::default()),
         Call::Billing {
             month,
             critical_days,
             ..
         } => {
             let billed = account.billing(month, delivered, received, critical_days);
-            Answered {
-                account: billed.account,
-                answer: Answer {
-                    number: billed.number(),
-                    bill: billed.answer.unwrap_or_default(),
-                    ..Answer::default()
-                },
-            }
+            let amounts = Answer {
+                bill: billed.answer.unwrap_or_default(),
+                ..Answer::default()
+            };
+            from_reply(billed, amounts)
         }
         Call::Closing => {
             let closed = account.closing();
-            Answered {
-                account: closed.account,
-                answer: Answer {
-                    number: closed.number(),
-                    amounts: closed.answer.unwrap_or_default(),
-                    ..Answer::default()
-                },
-            }
+            let amounts = Answer {
+                amounts: closed.answer.unwrap_or_default(),
+                ..Answer::default()
+            };
+            from_reply(closed, amounts)
         }
     }
 }
@@ -120,24 +115,22 @@ pub fn run(
 {
     let size = answers.len();
     let mut account = start;
-    let mut answered = 0;
-    let mut unread = calls;
     let mut delivered_left = delivered;
     let mut received_left = received;
-    while let Some((words, more)) = unread.split_first_chunk::<{ records::RECORD }>() {
+    let (whole, _) = calls.as_chunks::<{ records::RECORD }>();
+    for (answered, words) in whole.iter().enumerate() {
         let Some(call) = records::call_at(words) else {
             return ran_to(account, answered, size);
         };
-        let (taken, more_delivered) = records::readings_taken(call.delivered(), delivered_left);
-        let (given, more_received) = records::readings_taken(call.received(), received_left);
+        let (from_delivered, from_received) = call.readings();
+        let (taken, more_delivered) = records::readings_taken(from_delivered, delivered_left);
+        let (given, more_received) = records::readings_taken(from_received, received_left);
         let step = answer_call(account, call, taken, given);
         let row = records::row_of(step.answer);
         text::write_at(answers, answered * records::ROW, &row);
         account = step.account;
-        answered += 1;
-        unread = more;
         delivered_left = more_delivered;
         received_left = more_received;
     }
-    ran_to(account, answered, size)
+    ran_to(account, whole.len(), size)
 }

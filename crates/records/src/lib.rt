@@ -97,7 +97,7 @@ pub struct Answer {
     pub amounts: ClosingAmounts,
 }
 
-// Yes or no of a known code.
+// Yes or no of a known code. It is a function, since a `TryFrom` of std's `bool` can't be written here.
 fn yes_of(code: u64) -> Option<bool>
     ensures { result ≡ yes_read code }
 {
@@ -108,18 +108,11 @@ fn yes_of(code: u64) -> Option<bool>
     }
 }
 
-// The number at a place of a record, or 0 past its end.
-pub fn number_at(words: &[u64], place: usize) -> u64
-    ensures { result ≡ get_or words.now place 0 }
-{
-    words.get(place).copied().unwrap_or(0)
-}
-
-// The number at a place counted from another one, or 0 past the end.
+// The number at a place counted from another one, or 0 past the record's end, as in all that is read here.
 pub fn number_from(words: &[u64], start: usize, place: usize) -> u64
     ensures { result ≡ get_or words.now (start + place) 0 }
 {
-    number_at(words, start.saturating_add(place))
+    text::at_or(words, start.saturating_add(place), 0)
 }
 
 // The places for nameplates of the terms that start at a place.
@@ -162,7 +155,7 @@ pub fn four_at(words: &[u64], place: usize) -> ByPeriod
     ensures { result ≡ four_at words.now place }
 {
     ByPeriod {
-        critical: number_at(words, place),
+        critical: text::at_or(words, place, 0),
         onpeak: number_from(words, place, 1),
         offpeak: number_from(words, place, 2),
         discount: number_from(words, place, 3),
@@ -190,7 +183,7 @@ pub fn prices_at(words: &[u64], place: usize) -> PriceList
 pub fn small_at(words: &[u64], place: usize) -> Option<u32>
     ensures { result ≡ small_read words.now place }
 {
-    u32::try_from(number_at(words, place)).ok()
+    u32::try_from(text::at_or(words, place, 0)).ok()
 }
 
 // What the record of an opening says, where its codes are known and its month has 32 bits.
@@ -215,8 +208,8 @@ fn billing_at(words: &[u64]) -> Option<Call>
 {
     Some(Call::Billing {
         month: small_at(words, MONTH_PLACE)?,
-        delivered: number_at(words, DELIVERED_PLACE),
-        received: number_at(words, RECEIVED_PLACE),
+        delivered: text::at_or(words, DELIVERED_PLACE, 0),
+        received: text::at_or(words, RECEIVED_PLACE, 0),
         critical_days: small_at(words, CRITICAL_PLACE)?,
     })
 }
@@ -226,7 +219,7 @@ fn billing_at(words: &[u64]) -> Option<Call>
 pub fn call_at(words: &[u64]) -> Option<Call>
     ensures { result ≡ call_read words.now }
 {
-    match number_at(words, KIND_PLACE) {
+    match text::at_or(words, KIND_PLACE, 0) {
         OPENING => opening_at(words),
         REPRICING => Some(Call::Repricing {
             prices: prices_at(words, PRICES_PLACE),
@@ -238,23 +231,18 @@ pub fn call_at(words: &[u64]) -> Option<Call>
 }
 
 impl Call {
-    // How many readings a call takes from the register delivered: a billing alone takes some.
-    pub fn delivered(self) -> u64
-        ensures { result ≡ delivered_said self }
+    // How many readings a call takes from the register delivered, and how many from the register received: a billing alone takes some.
+    pub fn readings(self) -> (u64, u64)
+        ensures delivered { result.0 ≡ delivered_said self }
+        ensures received { result.1 ≡ received_said self }
     {
         match self {
-            Call::Billing { delivered, .. } => delivered,
-            _ => 0,
-        }
-    }
-
-    // The same of the register received.
-    pub fn received(self) -> u64
-        ensures { result ≡ received_said self }
-    {
-        match self {
-            Call::Billing { received, .. } => received,
-            _ => 0,
+            Call::Billing {
+                delivered,
+                received,
+                ..
+            } => (delivered, received),
+            _ => (0, 0),
         }
     }
 }
@@ -275,7 +263,7 @@ pub fn row_of(answer: Answer) -> [u64; ROW]
     let c = b.charges;
     let closed = answer.amounts;
     [
-        answer.number as u64,
+        u64::from(answer.number),
         b.forfeited.critical,
         b.forfeited.onpeak,
         b.forfeited.offpeak,
@@ -338,7 +326,8 @@ pub fn row_of(answer: Answer) -> [u64; ROW]
     ]
 }
 
-// Writes terms from a place on; what doesn't fit is left out.
+// Writes terms from a place on; what doesn't fit is left out. They are written at once: parts before and after the nameplates would each need a place to
+// start at, and a sum that can't overflow for it.
 #[tactic(auto, unfolding(crate::specs::Sections::terms_numbers))]
 pub fn write_terms(buffer: &mut [u64], place: usize, terms: Terms)
     ensures { buffer.new ≡ sets buffer.old place (terms_numbers terms) }
