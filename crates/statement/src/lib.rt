@@ -12,6 +12,7 @@ ghost use Rattle.statement.specs.Status.{number_place, status_after, is_end, End
 use session::Session;
 use std::io::Read;
 use std::rt::Stdin;
+use text::at_or;
 
 const STANDARD_INPUT: i32 = 0;
 
@@ -86,21 +87,14 @@ fn write_put<P: Fn(&mut [u8], &[u8]) -> usize>(
     write(descriptor, &out[..end])
 }
 
-// The byte at a place of a line, or 0 past its end.
-fn byte_at(line: &[u8], place: usize) -> u8
-    ensures { result ≡ get_or line.now place 0 }
-{
-    line.get(place).copied().unwrap_or(0)
-}
-
 // The first digit of the number of an opening or a month.
 fn first_digit(line: &[u8]) -> u8
     ensures { result ≡ get_or line.now (number_place line.now) 0 }
 {
-    if byte_at(line, 0) == b'o' {
-        byte_at(line, OPENING_NUMBER)
+    if at_or(line, 0, 0) == b'o' {
+        at_or(line, OPENING_NUMBER, 0)
     } else {
-        byte_at(line, MONTH_NUMBER)
+        at_or(line, MONTH_NUMBER, 0)
     }
 }
 
@@ -110,7 +104,7 @@ impl Verdict {
     fn after(self, line: &[u8]) -> Verdict
         ensures { number_of result ≡ status_after (number_of self) line.now }
     {
-        if byte_at(line, 0) == b'l' {
+        if at_or(line, 0, 0) == b'l' {
             Verdict::StoppedAtLine
         } else if self == Verdict::Accepted && first_digit(line) != b'0' {
             Verdict::Refused
