@@ -1,13 +1,12 @@
 -- The numbers of a table, and how wide its columns are.
 use mathlib.Core.Path.{◌≡◌, refl, ◌∙◌, sym}
-use mathlib.Core.Bool.{Bool, true, false, false≢true, ◌||◌}
+use mathlib.Core.Bool.{Bool, true, false, cond, false≢true, ◌||◌}
 use mathlib.Core.List.{List, [], ◌∷◌, ◌++◌}
-use Prim.Native.Nat.{ℕ, zero, suc, ◌+◌, ◌-◌, ◌≤◌, ◌<◌}
-use native.Mathlib.Nat.{zero-add, suc-add}
-use native.Mathlib.Numerals.{add-one}
+use Prim.Native.Nat.{ℕ, zero, suc, ◌≤◌, ◌<◌}
 use native.Mathlib.Omega.{arith}
 use borrow.Author.Tests.{lt-ltb, le-ltb, ltb-true, ltb-false}
 use lib.Dec.{ltb, lit≤}
+use Rattle.std.specs.List.{list_any, range_with_len}
 use Rattle.table.specs.Table.{shown_numbers, any_wide, width_of}
 use Rattle.table.specs.Filling.{cell_at, Width}
 
@@ -53,42 +52,11 @@ each_narrow ns (suc m) k h e = by (ltb 999999999 (cell_at ns m)) refl (ltb k m) 
         r (ltb-true k m g) (sym (any_no (up_to (cell_at ns) m) (cell_at ns m) (ltb-false 999999999 (cell_at ns m) f)) ∙ e)
     by false f false g r = let same : k ≡ m = omega (arith, ltb-false k m g) in rw same (ltb-false 999999999 (cell_at ns m) f)
 
--- Wide columns, and narrow ones.
-wide_is : {ns : List ℕ} → wide_to ns 37 ≡ true → Width ns 28
-unfolding width_of
-wide_is {ns} e = record { is = rw (cells_are ns, e); least = lit≤ tt; most = lit≤ tt }
+-- Whether a cell is too wide, and the width by that of each.
+abbrev pub is_wide : List ℕ → ℕ → Bool
+is_wide ns k = ltb 999999999 (cell_at ns k)
 
-narrow_is : {ns : List ℕ} → wide_to ns 37 ≡ false → Width ns 13
-unfolding width_of
-narrow_is {ns} e = record { is = rw (cells_are ns, e); least = lit≤ tt; most = lit≤ tt }
-
--- A number that is too wide stays one where others follow.
-any_more : (ms : List ℕ) (n : ℕ) → any_wide ms ≡ true → any_wide (ms ++ n ∷ []) ≡ true
-unfolding any_wide
-any_more [] n e = absurd (false≢true e)
-any_more (m ∷ ms) n e = by (ltb 999999999 m) (any_wide ms) e (any_more ms n)
-  where
-    by : (t u : Bool) → (t || u) ≡ true → (u ≡ true → any_wide (ms ++ n ∷ []) ≡ true) → (t || any_wide (ms ++ n ∷ [])) ≡ true
-    by true u f g = refl
-    by false u f g = g f
-
-wide_more : (ns : List ℕ) (k j : ℕ) → wide_to ns k ≡ true → wide_to ns (j + k) ≡ true
-wide_more ns k zero e = rw zero-add e
-wide_more ns k (suc j) e = rw suc-add (any_more (up_to (cell_at ns) (j + k)) (cell_at ns (j + k)) (wide_more ns k j e))
-
--- The numbers are looked at from the first on.
-pub wide_found : {ns : List ℕ} {r : ℕ} (k : ℕ) → k < 37 → r ≡ cell_at ns k → 999999999 < r → Width ns 28
-wide_found {ns} k h e w =
-    let here : wide_to ns (suc k) ≡ true = any_yes (up_to (cell_at ns) k) (cell_at ns k) (omega arith) in
-    let all : (36 - k) + suc k ≡ 37 = omega arith in
-    wide_is (rw all at (wide_more ns (suc k) (36 - k) here))
-
-pub wide_next : (ns : List ℕ) {r : ℕ} (k : ℕ) → wide_to ns k ≡ false → r ≡ cell_at ns k → r ≤ 999999999 → wide_to ns (k + 1) ≡ false
-wide_next ns k e f w = rw add-one (any_no (up_to (cell_at ns) k) (cell_at ns k) (omega arith) ∙ e)
-
-pub wide_first : (ns : List ℕ) → wide_to ns 0 ≡ false
-unfolding any_wide
-wide_first ns = refl
-
-pub wide_none : {ns : List ℕ} (k : ℕ) → wide_to ns k ≡ false → k ≡ 37 → Width ns 13
-wide_none k e h = narrow_is (rw h at e)
+pub width_by : {ns : List ℕ} (b : Bool) → b ≡ list_any (is_wide ns) (range_with_len 0 37) → Width ns (cond b 28 13)
+unfolding width_of any_wide shown_numbers cell_at
+width_by true e = record { is = rw (← e); least = lit≤ tt; most = lit≤ tt }
+width_by false e = record { is = rw (← e); least = lit≤ tt; most = lit≤ tt }

@@ -8,10 +8,10 @@ use lib.Dec.{eqb, ltb, lit≤}
 use lib.ListN.{get_or, take, drop}
 use Rattle.text.specs.Text.{bytes_of}
 use Rattle.printing.specs.Text.{digit_byte, decimal}
-use Rattle.printing.specs.Writing.{Wrote}
+use Rattle.printing.specs.Writing.{PutIn}
 use Rattle.table.specs.Numbers.{opening, month, stop, numbers_of, kind_of}
 use Rattle.table.specs.Reasons.{wrong_at, explained_at}
-use Rattle.table.specs.Table.{joined, month_parts, energy, due, grouped, right_in, shown_numbers, any_wide, width_of, month_table, table_for, table_of}
+use Rattle.table.specs.Table.{joined, month_parts, energy, due, grouped, right_in, shown_numbers, any_wide, width_of, month_table, table_for, table_of, table_room}
 use Rattle.table.specs.Explaining.{explanation_for, explanation_of}
 use Rattle.table.specs.declared.Kind.{Kind}
 use Rattle.table.specs.declared.Kind.TheVariants.{Opening, Month, Stop, Other}
@@ -174,11 +174,11 @@ module _ (line : List ℕ) where
   module _ {o o1 ns t : List ℕ} {i j n r first : ℕ} {k : Kind} (ek : k ≡ kind) (en : ns ≡ numbers_of line) (er : n ≡ refusal_by k ns)
       (erow : r ≡ row_by k n) where
     pub table_shown : {w : ℕ} → w ≡ width_of ns → t ≡ table_template k n → first ≡ table_first k n
-        → Wrote o i (filled_by (marked_by ns w) (wrong_at r) (to_do_at r) first t) o1 j
-        → Wrote o i (table_of line) o1 j
+        → PutIn table_room o i (filled_by (marked_by ns w) (wrong_at r) (to_do_at r) first t) o1 j
+        → PutIn table_room o i (table_of line) o1 j
     table_shown ew et ef p = rw (et, ef, erow, ew, er, en, ek, table_is) at p
 
     pub explanation_shown : (w : ℕ) → t ≡ explanation_template k n → first ≡ 0
-        → Wrote o i (filled_by (marked_by ns w) (wrong_at r) (to_do_at r) first t) o1 j
-        → Wrote o i (explanation_of line) o1 j
+        → PutIn table_room o i (filled_by (marked_by ns w) (wrong_at r) (to_do_at r) first t) o1 j
+        → PutIn table_room o i (explanation_of line) o1 j
     explanation_shown w et ef p = rw (et, ef, erow, er, en, ek, explanation_is w) at p

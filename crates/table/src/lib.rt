@@ -171,12 +171,11 @@ fn cell_of(numbers: &[u64; NUMBERS], k: usize) -> u64
 fn width_of(numbers: &[u64; NUMBERS]) -> usize
     ensures { Width numbers.now result }
 {
-    for k in 0..CELLS {
-        if NARROW_MOST < cell_of(numbers, k) {
-            return WIDE;
-        }
+    if (0..CELLS).any(|k| NARROW_MOST < cell_of(numbers, k)) {
+        WIDE
+    } else {
+        NARROW
     }
-    NARROW
 }
 
 fn column_byte(number: u64, place: usize) -> u8
@@ -205,22 +204,18 @@ fn put_column(out: &mut [u8], number: u64, place: usize)
     requires { place + length out.old ≤ 32 }
     ensures { out.new ≡ column (length out.old) place number }
 {
-    let width = out.len();
-    if width == 0 {
-        return;
+    if let Some((last, rest)) = out.split_last_mut() {
+        *last = column_byte(number, place);
+        put_column(rest, column_rest(number, place), place + 1);
     }
-    put_column(&mut out[..width - 1], column_rest(number, place), place + 1);
-    out[width - 1] = column_byte(number, place);
 }
 
-// Copies bytes to the front, and says how many.
+// Copies bytes to the front, and says how many they are.
 fn put_bytes(out: &mut [u8], bytes: &[u8]) -> usize
-    requires { length bytes.now ≤ length out.old }
     ensures { Wrote out.old 0 bytes.now out.new result }
 {
-    let count = bytes.len();
-    out[..count].copy_from_slice(bytes);
-    count
+    text::write_at(out, 0, bytes);
+    bytes.len()
 }
 
 // The numbers of a note: year, month in two digits, answer.
@@ -443,11 +438,14 @@ impl Sheet {
         shown.width
     }
 
-    // Fills in a template at the front, and says how many bytes that are.
+    // Fills in a template at the front, where there is room, and says how many bytes that are; otherwise 0.
     fn put(&self, out: &mut [u8], template: Template, row: Row) -> usize
-        requires { (most_filled template.text.now ≤ length out.old) × (template.first_mark ≤ 4) }
-        ensures { Wrote out.old 0 (filled_by (marked_by self.now.numbers self.now.width) (wrong_at (row_number row)) (to_do_at (row_number row)) template.first_mark template.text.now) out.new result }
+        requires { (most_filled template.text.now ≤ table_room) × (template.first_mark ≤ 4) }
+        ensures { PutIn table_room out.old 0 (filled_by (marked_by self.now.numbers self.now.width) (wrong_at (row_number row)) (to_do_at (row_number row)) template.first_mark template.text.now) out.new result }
     {
+        if out.len() < TABLE_ROOM {
+            return 0;
+        }
         let reason = row.reason();
         let mut end = 0;
         let mut mark = template.first_mark;
@@ -472,9 +470,6 @@ impl Sheet {
 pub fn put_table(out: &mut [u8], line: &[u8]) -> usize
     ensures { PutIn table_room out.old 0 (table_of line.now) out.new result }
 {
-    if out.len() < TABLE_ROOM {
-        return 0;
-    }
     let sheet = Sheet::of(line);
     let table = table_template(sheet.kind, sheet.refusal);
     sheet.put(out, table, row_of(sheet.kind, sheet.refusal))
@@ -484,9 +479,6 @@ pub fn put_table(out: &mut [u8], line: &[u8]) -> usize
 pub fn put_explanation(out: &mut [u8], line: &[u8]) -> usize
     ensures { PutIn table_room out.old 0 (explanation_of line.now) out.new result }
 {
-    if out.len() < TABLE_ROOM {
-        return 0;
-    }
     let sheet = Sheet::of(line);
     let note = explanation_template(sheet.kind, sheet.refusal);
     sheet.put(out, note, row_of(sheet.kind, sheet.refusal))

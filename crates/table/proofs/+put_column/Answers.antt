@@ -2,8 +2,8 @@
 use Rattle.table.proofs.Writing.{column_none, column_more}
 use Rattle.table.proofs.+put_column.Goals as goal
 
-pub returns-then-width-eq0 : goal.returns-then-width-eq0
-returns-then-width-eq0 t c = column_none _ _ _ c.if-width-eq0.true
+pub returns-in-Some : goal.returns-in-Some
+returns-in-Some t c = column_more _ _ _ _ c.in-Some.ensures.cases.1 c.column_rest.ensures c.column_byte.ensures c.put_column.ensures
 
-pub returns : goal.returns
-returns t c = column_more _ _ _ c.if-width-eq0.false c.column_rest.ensures c.column_byte.ensures c.put_column.ensures
+pub returns-in_default : goal.returns-in_default
+returns-in_default t c = column_none _ _ _ c.in_default.ensures.cases

@@ -1,14 +1,10 @@
--- `table::put_explanation` fills in the template for a line, where there is room.
+-- `table::put_explanation` fills in the template for a line.
 use Prim.Native.Nat.{◌≤◌}
 use native.Mathlib.Omega.{arith}
-use Rattle.printing.proofs.Writing.{put_short, put_long}
 use Rattle.table.specs.Filling.{most_filled}
 use Rattle.table.proofs.Texts.{explanation_most}
 use Rattle.table.proofs.Showing.{explanation_shown}
 use Rattle.table.proofs.put_explanation.Goals as goal
-
-pub returns-then-out-lt-TABLE_ROOM : goal.returns-then-out-lt-TABLE_ROOM
-returns-then-out-lt-TABLE_ROOM c = put_short 2048 c.args.out.now c.if-out-lt-TABLE_ROOM.true
 
 pub put-requires : goal.put-requires
 put-requires c =
@@ -20,5 +16,4 @@ pub returns : goal.returns
 returns c =
     let sheet = c.of-sheet.ensures in
     let template = c.explanation_template-note.ensures in
-    put_long 2048 c.args.out.now c.if-out-lt-TABLE_ROOM.false
-    (explanation_shown c.args.line.now sheet.kind sheet.numbers sheet.refusal c.row_of.ensures _ template.text template.first c.put.ensures)
+    explanation_shown c.args.line.now sheet.kind sheet.numbers sheet.refusal c.row_of.ensures _ template.text template.first c.put.ensures

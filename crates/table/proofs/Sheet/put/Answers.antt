@@ -1,9 +1,7 @@
 -- `table::Sheet::put`: what is left of the template is still to be filled in, and has room.
 use native.Mathlib.Omega.{arith}
-use Prim.Native.Nat.{◌≤◌}
-use lib.ListN.{length}
-use Rattle.printing.proofs.Writing.{rest_room}
-use Rattle.table.proofs.Filling.{ends, room_mark, room_what, room_then, room_byte, then_mark, then_what, then_then, then_byte, marked_length}
+use Rattle.printing.proofs.Writing.{rest_room, put_short, put_long}
+use Rattle.table.proofs.Filling.{ends, room_mark, room_what, room_then, then_mark, then_what, then_then, then_byte, marked_length}
 use Rattle.table.proofs.Texts.{wrong_short, to_do_short}
 use Rattle.table.proofs.Sheet.put.Goals as goal
 use Rattle.table.proofs.Sheet.put.Goals.{in-35, in-126, in-33, in_default}
@@ -11,23 +9,6 @@ use Rattle.table.proofs.Sheet.put.Goals.{in-35, in-126, in-33, in_default}
 pub put_mark-count-requires : goal.put_mark-count-requires
 put_mark-count-requires c = let loop = c.loop-byte in
     rest_room 28 loop.out loop.end (omega (arith, room_mark loop.invariant c.loop-byte-test.true c.in-35.is))
-
-pub put_bytes-requires : goal.put_bytes-requires
-put_bytes-requires c = let loop = c.loop-byte in
-    let room = rest_room 80 loop.out loop.end (omega (arith, room_what loop.invariant c.loop-byte-test.true c.in-126.is)) in
-    let short : length c.reason-reason.result.wrong.now ≤ 80 = rw c.reason-reason.ensures.wrong (wrong_short _) in
-    omega arith
-
-pub put_bytes-requires-in-33 : goal.put_bytes-requires-in-33
-put_bytes-requires-in-33 c = let loop = c.loop-byte in
-    let room = rest_room 80 loop.out loop.end (omega (arith, room_then loop.invariant c.loop-byte-test.true c.in-33.is)) in
-    let short : length c.reason-reason.result.to_do.now ≤ 80 = rw c.reason-reason.ensures.to_do (to_do_short _) in
-    omega arith
-
-pub put_bytes-requires-in_default : goal.put_bytes-requires-in_default
-put_bytes-requires-in_default c = let loop = c.loop-byte in
-    rest_room 1 loop.out loop.end
-    (omega (arith, room_byte loop.invariant c.loop-byte-test.true (λ e. omega arith) (λ e. omega arith) (λ e. omega arith)))
 
 pub overflow_add-end : goal.overflow_add-end
 overflow_add-end c =
@@ -59,5 +40,10 @@ loop-byte-preserved c =
           (then_byte inv inside (λ e. omega arith) (λ e. omega arith) (λ e. omega arith) w.put_bytes-in_default.ensures)
     ]
 
+pub returns-then-out-lt-TABLE_ROOM : goal.returns-then-out-lt-TABLE_ROOM
+returns-then-out-lt-TABLE_ROOM c = put_short 2048 c.args.out.now c.if-out-lt-TABLE_ROOM.true
+
 pub returns : goal.returns
-returns c = rw (c.reason-reason.ensures.wrong, c.reason-reason.ensures.to_do) at (ends c.loop-byte.invariant c.loop-byte-test.false)
+returns c =
+    put_long 2048 c.args.out.now c.if-out-lt-TABLE_ROOM.false
+    (rw (c.reason-reason.ensures.wrong, c.reason-reason.ensures.to_do) at (ends c.loop-byte.invariant c.loop-byte-test.false))
