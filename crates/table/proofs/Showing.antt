@@ -6,18 +6,19 @@ use Prim.Native.Nat.{ℕ, zero, suc, ◌-◌, ◌/◌, ◌%◌, ◌≤◌, ◌<�
 use native.Mathlib.Omega.{arith}
 use lib.Dec.{eqb, ltb, lit≤}
 use lib.ListN.{get_or, take, drop}
+use Rattle.std.specs.Prelude.{Option, unwrap_or}
 use Rattle.text.specs.Text.{bytes_of}
 use Rattle.printing.specs.Text.{digit_byte, decimal}
 use Rattle.printing.specs.Writing.{PutIn}
-use Rattle.table.specs.Numbers.{opening, month, stop, numbers_of, kind_of}
-use Rattle.table.specs.Reasons.{wrong_at, explained_at}
+use Rattle.table.specs.Numbers.{opening, month, stop, numbers_of, kind_of, refusal_of}
+use Rattle.table.specs.Reasons.{wrong_at, row_of, explained_at}
 use Rattle.table.specs.Table.{joined, month_parts, energy, due, grouped, right_in, shown_numbers, any_wide, width_of, month_table, table_for, table_of, table_room}
 use Rattle.table.specs.Explaining.{explanation_for, explanation_of}
 use Rattle.table.specs.declared.Kind.{Kind}
 use Rattle.table.specs.declared.Kind.TheVariants.{Opening, Month, Stop, Other}
-use Rattle.table.specs.Filling.{kind_by, refusal_by, row_by, to_do_at, cell_at, column, plain_value, shown_of, marked_by, filled_by, month_template, table_template, table_first, explanation_template}
+use Rattle.table.specs.Filling.{kind_by, refused, refusal_by, row_by, to_do_at, cell_at, column, plain_value, shown_of, marked_by, filled_by, month_template, table_template, table_first, explanation_template}
 use Rattle.table.proofs.Numbers.{Held, numbers_held}
-use Rattle.table.proofs.Telling.{refusal_same, row_same}
+use Rattle.table.proofs.Telling.{refusal_same, number_same, row_same}
 use Rattle.table.proofs.Cells.{up_to}
 use Rattle.table.proofs.Fitting.{Stands, blanks, cells_stand}
 
@@ -93,7 +94,7 @@ kind_for s o m = cond s Stop (cond o Opening (cond m Month Other))
 -- What is shown, by these tests and that for a refusal.
 module _ (ns what then : List ℕ) (n : ℕ) where
   table_by : Held ns → (s o m z : Bool) → eqb n 0 ≡ z
-      → filled_by (marked_by ns (width_of ns)) what then (table_first (kind_for s o m) n) (table_template (kind_for s o m) n)
+      → filled_by (marked_by ns (width_of ns)) what then (table_first (kind_for s o m) (refused n)) (table_template (kind_for s o m) (refused n))
       ≡ cond s (joined (bytes_of "stopped at line " ∷ decimal (get_or ns 0 0) ∷ bytes_of "\n\n" ∷ []))
       (cond o
       (cond z (bytes_of "account opened\n\n")
@@ -121,7 +122,7 @@ module _ (ns what then : List ℕ) (n : ℕ) where
   bill_explained w = rw (reason_is what then (10 ∷ []))
 
   explanation_by : (w : ℕ) (s o m z : Bool) → eqb n 0 ≡ z
-      → filled_by (marked_by ns w) what then 0 (explanation_template (kind_for s o m) n)
+      → filled_by (marked_by ns w) what then 0 (explanation_template (kind_for s o m) (refused n))
       ≡ cond s
       (joined (bytes_of "line=" ∷ decimal (get_or ns 0 0) ∷ bytes_of ": " ∷ (what ++ bytes_of "; " ++ then) ∷ bytes_of "\n" ∷ []))
       (cond z []
@@ -144,11 +145,11 @@ module _ (line : List ℕ) where
   abbrev kind : Kind
   kind = kind_by (kind_of line)
 
-  abbrev refusal : ℕ
+  abbrev refusal : Option ℕ
   refusal = refusal_by kind (numbers_of line)
 
   abbrev row : ℕ
-  row = row_by kind refusal
+  row = row_by kind (unwrap_or refusal 0)
 
   pub table_is :
       filled_by (marked_by (numbers_of line) (width_of (numbers_of line))) (wrong_at row) (to_do_at row) (table_first kind refusal)
@@ -158,8 +159,9 @@ module _ (line : List ℕ) where
   table_is =
       let b = kind_of line in
       let ns = numbers_of line in
-      rw (← (refusal_same b ns), ← (row_same b refusal))
-      (table_by ns (wrong_at row) (to_do_at row) refusal (numbers_held line) (eqb b stop) (eqb b opening) (eqb b month) (eqb refusal 0) refl)
+      let n = refusal_of b ns in
+      rw (refusal_same b ns, number_same n, row_same b n)
+      (table_by ns (wrong_at (row_of b n)) (to_do_at (row_of b n)) n (numbers_held line) (eqb b stop) (eqb b opening) (eqb b month) (eqb n 0) refl)
 
   pub explanation_is : (w : ℕ)
       → filled_by (marked_by (numbers_of line) w) (wrong_at row) (to_do_at row) 0 (explanation_template kind refusal) ≡ explanation_of line
@@ -167,12 +169,13 @@ module _ (line : List ℕ) where
   explanation_is w =
       let b = kind_of line in
       let ns = numbers_of line in
-      rw (← (refusal_same b ns), ← (row_same b refusal))
-      (explanation_by ns (wrong_at row) (to_do_at row) refusal w (eqb b stop) (eqb b opening) (eqb b month) (eqb refusal 0) refl)
+      let n = refusal_of b ns in
+      rw (refusal_same b ns, number_same n, row_same b n)
+      (explanation_by ns (wrong_at (row_of b n)) (to_do_at (row_of b n)) n w (eqb b stop) (eqb b opening) (eqb b month) (eqb n 0) refl)
 
   -- and so is what the code writes.
-  module _ {o o1 ns t : List ℕ} {i j n r first : ℕ} {k : Kind} (ek : k ≡ kind) (en : ns ≡ numbers_of line) (er : n ≡ refusal_by k ns)
-      (erow : r ≡ row_by k n) where
+  module _ {o o1 ns t : List ℕ} {i j r first : ℕ} {k : Kind} {n : Option ℕ} (ek : k ≡ kind) (en : ns ≡ numbers_of line) (er : n ≡ refusal_by k ns)
+      (erow : r ≡ row_by k (unwrap_or n 0)) where
     pub table_shown : {w : ℕ} → w ≡ width_of ns → t ≡ table_template k n → first ≡ table_first k n
         → PutIn table_room o i (filled_by (marked_by ns w) (wrong_at r) (to_do_at r) first t) o1 j
         → PutIn table_room o i (table_of line) o1 j

@@ -1,12 +1,13 @@
 -- No template is too long, and no reason.
 use mathlib.Core.Path.{◌≡◌, refl}
-use mathlib.Core.Bool.{Bool, true, false, cond, ◌&&◌}
+use mathlib.Core.Bool.{Bool, true, ◌&&◌}
 use mathlib.Core.List.{List, [], ◌∷◌}
 use Prim.Native.Nat.{ℕ, zero, suc, ◌≤◌}
 use borrow.Author.Tests.{leb-true}
-use lib.Dec.{eqb, leb, lit≤}
+use lib.Dec.{leb, lit≤}
 use lib.ListN.{length, get_or}
 use Rattle.std.proofs.lemmas.Bool.{and_parts}
+use Rattle.std.specs.Prelude.{Option, None, Some}
 use Rattle.table.specs.Reasons.{wrong, to_do, wrong_at}
 use Rattle.table.specs.declared.Kind.{Kind}
 use Rattle.table.specs.declared.Kind.TheVariants.{Opening, Month, Stop, Other}
@@ -31,32 +32,29 @@ pub to_do_short : (row : ℕ) → length (to_do_at row) ≤ 80
 unfolding to_do_at all_within
 to_do_short row = each_within 80 to_do row refl (lit≤ tt)
 
--- One of two templates.
-one_of : (t : Bool) (x y : List ℕ) → most_filled x ≤ 2048 → most_filled y ≤ 2048 → most_filled (cond t x y) ≤ 2048
-one_of true x y h l = h
-one_of false x y h l = l
-
-pub table_most : (k : Kind) (n : ℕ) → most_filled (table_template k n) ≤ 2048
+pub table_most : (k : Kind) (r : Option ℕ) → most_filled (table_template k r) ≤ 2048
 unfolding table_template month_template most_filled
-table_most Stop n = lit≤ tt
-table_most Opening n = one_of (eqb n 0) _ _ (lit≤ tt) (lit≤ tt)
-table_most Month n = one_of (eqb n 0) _ _ (lit≤ tt) (lit≤ tt)
-table_most Other n = lit≤ tt
+table_most Stop r = lit≤ tt
+table_most Opening None = lit≤ tt
+table_most Opening (Some n) = lit≤ tt
+table_most Month None = lit≤ tt
+table_most Month (Some n) = lit≤ tt
+table_most Other r = lit≤ tt
 
-few : (t : Bool) → cond t 4 0 ≤ 4
-few true = lit≤ tt
-few false = lit≤ tt
-
-pub table_few : (k : Kind) (n : ℕ) → table_first k n ≤ 4
+pub table_few : (k : Kind) (r : Option ℕ) → table_first k r ≤ 4
 unfolding table_first
-table_few Stop n = lit≤ tt
-table_few Opening n = lit≤ tt
-table_few Month n = few (eqb n 0)
-table_few Other n = lit≤ tt
+table_few Stop r = lit≤ tt
+table_few Opening r = lit≤ tt
+table_few Month None = lit≤ tt
+table_few Month (Some n) = lit≤ tt
+table_few Other r = lit≤ tt
 
-pub explanation_most : (k : Kind) (n : ℕ) → most_filled (explanation_template k n) ≤ 2048
+pub explanation_most : (k : Kind) (r : Option ℕ) → most_filled (explanation_template k r) ≤ 2048
 unfolding explanation_template most_filled
-explanation_most Stop n = lit≤ tt
-explanation_most Opening n = one_of (eqb n 0) _ _ (lit≤ tt) (lit≤ tt)
-explanation_most Month n = one_of (eqb n 0) _ _ (lit≤ tt) (lit≤ tt)
-explanation_most Other n = one_of (eqb n 0) _ _ (lit≤ tt) (lit≤ tt)
+explanation_most Stop r = lit≤ tt
+explanation_most Opening None = lit≤ tt
+explanation_most Opening (Some n) = lit≤ tt
+explanation_most Month None = lit≤ tt
+explanation_most Month (Some n) = lit≤ tt
+explanation_most Other None = lit≤ tt
+explanation_most Other (Some n) = lit≤ tt

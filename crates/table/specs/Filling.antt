@@ -1,5 +1,5 @@
 -- What the private functions promise each other. No public contract cites this file.
-use Rattle.std.specs.Prelude.{◌≡◌, false, cond, List, [], ◌∷◌, ◌++◌, ℕ, zero, suc, ◌+◌, ◌-◌, ◌/◌, ◌%◌, ◌≤◌, eqb, ltb, get_or}
+use Rattle.std.specs.Prelude.{◌≡◌, false, cond, List, [], ◌∷◌, ◌++◌, ℕ, zero, suc, ◌+◌, ◌-◌, ◌/◌, ◌%◌, ◌≤◌, eqb, ltb, get_or, Option, None, Some}
 use Rattle.text.specs.Text.{bytes_of}
 use Rattle.printing.specs.Text.{digit_byte, decimal}
 use Rattle.table.specs.Numbers.{numbers_after, first_of, opening, month, stop}
@@ -15,12 +15,16 @@ use Rattle.table.specs.declared.Shown.{Shown}
 abbrev pub kind_by : ℕ → Kind
 kind_by b = cond (eqb b stop) Stop (cond (eqb b opening) Opening (cond (eqb b month) Month Other))
 
--- The number of the refusal that a line of a kind tells.
-abbrev pub refusal_by : Kind → List ℕ → ℕ
-refusal_by Opening ns = get_or ns 0 0
-refusal_by Month ns = get_or ns 2 0
-refusal_by Stop ns = 0
-refusal_by Other ns = 0
+-- The number of a refusal; 0 is none.
+abbrev pub refused : ℕ → Option ℕ
+refused n = cond (eqb n 0) None (Some n)
+
+-- The number of the refusal that a line of a kind tells, if it tells one.
+abbrev pub refusal_by : Kind → List ℕ → Option ℕ
+refusal_by Opening ns = refused (get_or ns 0 0)
+refusal_by Month ns = refused (get_or ns 2 0)
+refusal_by Stop ns = None
+refusal_by Other ns = None
 
 -- The number of a row of the reasons.
 abbrev pub row_number : Row → ℕ
@@ -115,22 +119,28 @@ month_template =
     ++ bytes_of "\ncritical#######\non-peak #######\noff-peak#######\ndiscount#######\nsum     #######"
     ++ bytes_of "\nenergy  #.##\ndue     #.##\n\n"
 
--- The template that is filled in for a line of a kind that tells refusal n, and its first mark.
-unfoldable pub table_template : Kind → ℕ → List ℕ
-table_template Stop n = bytes_of "stopped at line #\n\n"
-table_template Opening n = cond (eqb n 0) (bytes_of "account opened\n\n") (bytes_of "opening refused, #: ~\n\n")
-table_template Month n = cond (eqb n 0) month_template (bytes_of "#-##  refused, #: ~\n\n")
-table_template Other n = []
+-- The template that is filled in for a line of a kind that tells a refusal or none, and its first mark.
+unfoldable pub table_template : Kind → Option ℕ → List ℕ
+table_template Stop refusal = bytes_of "stopped at line #\n\n"
+table_template Opening None = bytes_of "account opened\n\n"
+table_template Opening (Some n) = bytes_of "opening refused, #: ~\n\n"
+table_template Month None = month_template
+table_template Month (Some n) = bytes_of "#-##  refused, #: ~\n\n"
+table_template Other refusal = []
 
-unfoldable pub table_first : Kind → ℕ → ℕ
-table_first Stop n = 0
-table_first Opening n = 0
-table_first Month n = cond (eqb n 0) 4 0
-table_first Other n = 0
+unfoldable pub table_first : Kind → Option ℕ → ℕ
+table_first Stop refusal = 0
+table_first Opening refusal = 0
+table_first Month None = 4
+table_first Month (Some n) = 0
+table_first Other refusal = 0
 
 -- Likewise for an explanation, whose first mark is 0.
-unfoldable pub explanation_template : Kind → ℕ → List ℕ
-explanation_template Stop n = bytes_of "line=#: ~; !\n"
-explanation_template Opening n = cond (eqb n 0) [] (bytes_of "open=#: ~; !\n")
-explanation_template Month n = cond (eqb n 0) [] (bytes_of "bill=#-## answer=#: ~; !\n")
-explanation_template Other n = cond (eqb n 0) [] (bytes_of "bill=#-## answer=#: ~; !\n")
+unfoldable pub explanation_template : Kind → Option ℕ → List ℕ
+explanation_template Stop refusal = bytes_of "line=#: ~; !\n"
+explanation_template Opening None = []
+explanation_template Opening (Some n) = bytes_of "open=#: ~; !\n"
+explanation_template Month None = []
+explanation_template Month (Some n) = bytes_of "bill=#-## answer=#: ~; !\n"
+explanation_template Other None = []
+explanation_template Other (Some n) = bytes_of "bill=#-## answer=#: ~; !\n"

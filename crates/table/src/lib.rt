@@ -1,14 +1,14 @@
 // What the options of `statement` show of a printed line, with its newline or without: a table, an explanation.
 #![tactic(auto)]
 
-ghost use Rattle.std.specs.Prelude.{◌≡◌, true, ◌+◌, ◌*◌, ◌≤◌, ◌<◌, length};
+ghost use Rattle.std.specs.Prelude.{◌≡◌, true, ◌+◌, ◌*◌, ◌≤◌, ◌<◌, length, unwrap_or};
 ghost use Rattle.numerals.specs.Numerals.{is_digit};
 ghost use Rattle.printing.specs.Writing.{Wrote, PutIn};
 ghost use Rattle.table.specs.Numbers.{capped, with_digit, numbers_of, kind_of, refusal_of};
 ghost use Rattle.table.specs.Reasons.{wrong_at};
 ghost use Rattle.table.specs.Table.{table_of, table_room};
 ghost use Rattle.table.specs.Explaining.{explanation_of};
-ghost use Rattle.table.specs.Filling.{NextNumber, kind_by, refusal_by, row_number, row_by, to_do_at, cell_at, Width, column_byte, column_rest, column, shown_of, plain_value, marked_by, filled_by, most_filled, table_template, table_first, explanation_template};
+ghost use Rattle.table.specs.Filling.{NextNumber, kind_by, refused, refusal_by, row_number, row_by, to_do_at, cell_at, Width, column_byte, column_rest, column, shown_of, plain_value, marked_by, filled_by, most_filled, table_template, table_first, explanation_template};
 
 // A table or an explanation has at most this many bytes.
 const TABLE_ROOM: usize = 2048;
@@ -82,7 +82,7 @@ struct Shown {
 #[derive(Drop)]
 struct Sheet {
     kind: Kind,
-    refusal: u64,
+    refusal: Option<u64>,
     numbers: [u64; NUMBERS],
     width: usize,
     ghost least: { 13 ≤ width },
@@ -137,18 +137,26 @@ fn kind_of(line: &[u8]) -> Kind
     }
 }
 
-// The number of the refusal that a line tells.
-fn refusal_of(kind: Kind, numbers: &[u64; NUMBERS]) -> u64
+// The number of a refusal, if it is one: 0 says that nothing was refused.
+fn refused(number: u64) -> Option<u64>
+    ensures { result ≡ refused number }
+{
+    (number != 0).then_some(number)
+}
+
+// The number of the refusal that a line tells, if it tells one.
+fn refusal_of(kind: Kind, numbers: &[u64; NUMBERS]) -> Option<u64>
     ensures { result ≡ refusal_by kind numbers.now }
 {
     match kind {
-        Kind::Opening => numbers[0],
-        Kind::Month => numbers[2],
-        Kind::Stop | Kind::Other => 0,
+        Kind::Opening => refused(numbers[0]),
+        Kind::Month => refused(numbers[2]),
+        Kind::Stop | Kind::Other => None,
     }
 }
 
-// The numbers of a table in its order: the amounts by period, their sums, energy and due.
+// The numbers of a table in its order: the amounts by period, their sums, energy and due. A sum that is capped is no method of std, and four calls are as plain as
+// a fold with a closure.
 #[tactic(auto, unfolding(crate::specs::Filling::cell_at))]
 fn cell_of(numbers: &[u64; NUMBERS], k: usize) -> u64
     requires { k < 37 }
@@ -234,26 +242,26 @@ fn plain_value(numbers: &[u64; NUMBERS], k: usize) -> u64
 // The row of a refusal's reason, or of a stop's. The number is one that a line shows, of any size, and no `Refusal`: that would first have to be made of it, by the
 // same match.
 #[tactic(auto, unfolding(crate::specs::Reasons::opening_row, crate::specs::Reasons::month_row))]
-fn row_of(kind: Kind, number: u64) -> Row
-    ensures { row_number result ≡ row_by kind number }
+fn row_of(kind: Kind, refusal: Option<u64>) -> Row
+    ensures { row_number result ≡ row_by kind (unwrap_or refusal 0) }
 {
     match kind {
         Kind::Stop => Row::Stopped,
-        Kind::Opening => match number {
-            4 => Row::Amounts,
-            5 => Row::Nameplates,
-            6 => Row::Business,
-            7 => Row::FirstMonth,
+        Kind::Opening => match refusal {
+            Some(4) => Row::Amounts,
+            Some(5) => Row::Nameplates,
+            Some(6) => Row::Business,
+            Some(7) => Row::FirstMonth,
             _ => Row::Unknown,
         },
-        Kind::Month | Kind::Other => match number {
-            1 => Row::NeverOpened,
-            7 => Row::OtherMonth,
-            8 => Row::Readings,
-            9 => Row::CriticalDays,
-            10 => Row::LargeReading,
-            11 => Row::LastMonth,
-            13 => Row::FirstLost,
+        Kind::Month | Kind::Other => match refusal {
+            Some(1) => Row::NeverOpened,
+            Some(7) => Row::OtherMonth,
+            Some(8) => Row::Readings,
+            Some(9) => Row::CriticalDays,
+            Some(10) => Row::LargeReading,
+            Some(11) => Row::LastMonth,
+            Some(13) => Row::FirstLost,
             _ => Row::Unknown,
         },
     }
@@ -336,35 +344,35 @@ impl Template {
 }
 
 #[tactic(auto, unfolding(crate::specs::Filling::table_template, crate::specs::Filling::table_first, crate::specs::Filling::month_template))]
-fn table_template(kind: Kind, refusal: u64) -> Template
+fn table_template(kind: Kind, refusal: Option<u64>) -> Template
     ensures text { result.text.now ≡ table_template kind refusal }
     ensures first { result.first_mark ≡ table_first kind refusal }
 {
-    match kind {
-        Kind::Stop => Template::note(b"stopped at line #\n\n"),
-        Kind::Opening if refusal == 0 => Template::note(b"account opened\n\n"),
-        Kind::Opening => Template::note(b"opening refused, #: ~\n\n"),
-        Kind::Month if refusal == 0 => Template {
+    match (kind, refusal) {
+        (Kind::Stop, _) => Template::note(b"stopped at line #\n\n"),
+        (Kind::Opening, None) => Template::note(b"account opened\n\n"),
+        (Kind::Opening, Some(_)) => Template::note(b"opening refused, #: ~\n\n"),
+        (Kind::Month, None) => Template {
             text: b"#-## #        3 own#        4 out#         5 in#       6 paid#  7 forfeited#     8 billed#       9 left\n\
                 critical#######\non-peak #######\noff-peak#######\ndiscount#######\nsum     #######\n\
                 energy  #.##\ndue     #.##\n\n",
             first_mark: TABLE_MARK,
         },
-        Kind::Month => Template::note(b"#-##  refused, #: ~\n\n"),
-        Kind::Other => Template::note(b""),
+        (Kind::Month, Some(_)) => Template::note(b"#-##  refused, #: ~\n\n"),
+        (Kind::Other, _) => Template::note(b""),
     }
 }
 
 #[tactic(auto, unfolding(crate::specs::Filling::explanation_template))]
-fn explanation_template(kind: Kind, refusal: u64) -> Template
+fn explanation_template(kind: Kind, refusal: Option<u64>) -> Template
     ensures text { result.text.now ≡ explanation_template kind refusal }
     ensures first { result.first_mark ≡ 0 }
 {
-    match kind {
-        Kind::Stop => Template::note(b"line=#: ~; !\n"),
-        _ if refusal == 0 => Template::note(b""),
-        Kind::Opening => Template::note(b"open=#: ~; !\n"),
-        Kind::Month | Kind::Other => Template::note(b"bill=#-## answer=#: ~; !\n"),
+    match (kind, refusal) {
+        (Kind::Stop, _) => Template::note(b"line=#: ~; !\n"),
+        (_, None) => Template::note(b""),
+        (Kind::Opening, Some(_)) => Template::note(b"open=#: ~; !\n"),
+        (Kind::Month | Kind::Other, Some(_)) => Template::note(b"bill=#-## answer=#: ~; !\n"),
     }
 }
 
@@ -387,7 +395,7 @@ impl Sheet {
         }
     }
 
-    // The columns of a table: blanks that widen the seven headings, the numbers, energy and due in dollars and two digits of cents.
+    // What stands in a table's columns, by the count of its mark: blanks that widen the seven headings, the numbers, energy and due in dollars and two digits of cents.
     #[tactic(auto, unfolding(crate::specs::Filling::shown_of))]
     fn shown(&self, k: usize) -> Shown
         ensures { result ≡ shown_of self.now.numbers self.now.width k }
@@ -425,7 +433,8 @@ impl Sheet {
         }
     }
 
-    // Writes what stands for a mark of a template. Notes begin with mark 0 and tables with mark 4.
+    // Writes what stands for a mark of a template. Notes begin with mark 0 and tables with mark 4. Marks are numbers and no enum: they are counted along the text, and
+    // which number stands for one is a formula of its count, from which an enum would first have to be made.
     fn put_mark(&self, out: &mut [u8], mark: usize) -> usize
         requires { 28 ≤ length out.old }
         ensures { Wrote out.old 0 (marked_by self.now.numbers self.now.width mark) out.new result }
