@@ -207,7 +207,8 @@ fn column_rest(number: u64, place: usize) -> u64
     if place % 4 == 3 { number } else { number / 10 }
 }
 
-// Writes a number over all of a part, at its right end.
+// Writes a number over all of a part, at its right end: its last byte, and what is left of the number over the bytes before. It calls itself, as `column` does: a loop
+// over the bytes from the right would have to carry the number and its place along.
 fn put_column(out: &mut [u8], number: u64, place: usize)
     requires { place + length out.old ≤ 32 }
     ensures { out.new ≡ column (length out.old) place number }
