@@ -1,29 +1,17 @@
 // The lines that `statement` reads: what each gives in numbers, or none where it is unreadable.
 #![tactic(auto)]
 
-ghost use Rattle.std.specs.Prelude.{◌≡◌, ◌<◌, [], ◌∷◌, length, drop, IfSome, is_some, option_to_list, unwrap_or};
+ghost use Rattle.std.specs.Prelude.{◌≡◌, ◌<◌, true, false, None, [], ◌∷◌, length, drop, IfSome, is_some, option_to_list, unwrap_or};
+ghost use Rattle.std.specs.Fn.{FnReturnsAt};
 ghost use Rattle.arrayvec.specs.ArrayVec.{array_vec_len};
 ghost use Rattle.numerals.specs.Reading.{items_of};
 ghost use Rattle.grammar.specs.Grammar.{begins_with, choice_in, keyed};
-ghost use Rattle.grammar.specs.Kinds.{value_in};
 ghost use Rattle.grammar.specs.Grammar.{opening_line, bill_line, critical_line, run_line};
 
 use arrayvec::ArrayVec;
 
 // The most numbers of a line: the nameplates.
 pub const MOST_NUMBERS: usize = 8;
-
-// What can stand after a key of the opening: a month, one of two words, several numbers or one.
-#[derive(Clone, Copy)]
-enum Value {
-    Month,
-    Rider,
-    Class,
-    Nameplates,
-    Number,
-    Assisted,
-    Prices,
-}
 
 // What stands after a key, if a line begins with it.
 #[tactic(auto, using(crate::proofs::Texts::begins_is))]
@@ -57,54 +45,48 @@ fn alone(number: u32) -> ArrayVec<u32, MOST_NUMBERS>
     numbers
 }
 
-impl Value {
-    // What a text gives as such a value.
-    fn read(self, text: &[u8]) -> Option<ArrayVec<u32, MOST_NUMBERS>>
-        ensures value { items_of result ≡ value_in self text.now }
-        ensures some { IfSome result (λ numbers. 0 < array_vec_len numbers) }
-    {
-        match self {
-            Value::Month => numerals::month_in(text).map(alone),
-            Value::Rider => choice_in(text, b"banked", b"bridge").map(alone),
-            Value::Class => choice_in(text, b"home", b"business").map(alone),
-            Value::Nameplates => numerals::numbers_up_to(text),
-            Value::Number => numerals::number_in(text).map(alone),
-            Value::Assisted => choice_in(text, b"no", b"yes").map(alone),
-            Value::Prices => ArrayVec::try_from(numerals::numbers_in::<4>(text)?.as_slice()).ok(),
-        }
-    }
+// What is read after a key, if a line begins with it.
+fn keyed<T, R: Fn(&[u8]) -> Option<T>>(line: &[u8], key: &[u8], read: R) -> Option<T>
+    requires { R.IsAlwaysCallable read }
+    ensures yes { begins_with key.now line.now ≡ true → FnReturnsAt R.Fn read (drop (length key.now) line.now) result }
+    ensures no { begins_with key.now line.now ≡ false → result ≡ None }
+{
+    read(after_key(line, key)?)
 }
 
-// A line with a value after its key.
+// One of two words after a key.
 #[tactic(auto, unfolding(crate::specs::Grammar::keyed))]
-fn keyed(line: &[u8], key: &[u8], value: Value) -> Option<ArrayVec<u32, MOST_NUMBERS>>
-    ensures value { items_of result ≡ keyed key.now (value_in value) line.now }
+fn word(line: &[u8], key: &[u8], first: &[u8], second: &[u8]) -> Option<ArrayVec<u32, MOST_NUMBERS>>
+    ensures value { items_of result ≡ keyed key.now (choice_in first.now second.now) line.now }
     ensures some { IfSome result (λ numbers. 0 < array_vec_len numbers) }
 {
-    value.read(after_key(line, key)?)
+    keyed(line, key, |text| choice_in(text, first, second)).map(alone)
 }
 
 // Line k + 1 of the fourteen that open the account. k is any number: a type of fourteen lines would ask more of callers.
-#[tactic(auto, unfolding(crate::specs::Grammar::opening_line))]
+#[tactic(auto, unfolding(crate::specs::Grammar::opening_line, crate::specs::Grammar::keyed))]
 pub fn opening_line(k: u32, line: &[u8]) -> Option<ArrayVec<u32, MOST_NUMBERS>>
     ensures value { items_of result ≡ opening_line k line.now }
     ensures some { IfSome result (λ numbers. 0 < array_vec_len numbers) }
 {
     match k {
-        0 => keyed(line, b"opens=", Value::Month),
-        1 => keyed(line, b"rider=", Value::Rider),
-        2 => keyed(line, b"class=", Value::Class),
-        3 => keyed(line, b"nameplate=", Value::Nameplates),
-        4 => keyed(line, b"limit=", Value::Number),
-        5 => keyed(line, b"assisted=", Value::Assisted),
-        6 => keyed(line, b"prices=", Value::Prices),
-        7 => keyed(line, b"demand=", Value::Number),
-        8 => keyed(line, b"standby=", Value::Number),
-        9 => keyed(line, b"bypass=", Value::Number),
-        10 => keyed(line, b"credit=", Value::Number),
-        11 => keyed(line, b"distribution=", Value::Number),
-        12 => keyed(line, b"basic=", Value::Number),
-        13 => keyed(line, b"minimum=", Value::Number),
+        0 => keyed(line, b"opens=", numerals::month_in).map(alone),
+        1 => word(line, b"rider=", b"banked", b"bridge"),
+        2 => word(line, b"class=", b"home", b"business"),
+        3 => keyed(line, b"nameplate=", numerals::numbers_up_to),
+        4 => keyed(line, b"limit=", numerals::number_in).map(alone),
+        5 => word(line, b"assisted=", b"no", b"yes"),
+        6 => {
+            let prices = keyed(line, b"prices=", numerals::numbers_in::<4>)?;
+            ArrayVec::try_from(prices.as_slice()).ok()
+        }
+        7 => keyed(line, b"demand=", numerals::number_in).map(alone),
+        8 => keyed(line, b"standby=", numerals::number_in).map(alone),
+        9 => keyed(line, b"bypass=", numerals::number_in).map(alone),
+        10 => keyed(line, b"credit=", numerals::number_in).map(alone),
+        11 => keyed(line, b"distribution=", numerals::number_in).map(alone),
+        12 => keyed(line, b"basic=", numerals::number_in).map(alone),
+        13 => keyed(line, b"minimum=", numerals::number_in).map(alone),
         _ => None,
     }
 }
@@ -114,7 +96,7 @@ pub fn opening_line(k: u32, line: &[u8]) -> Option<ArrayVec<u32, MOST_NUMBERS>>
 pub fn bill_line(line: &[u8]) -> Option<u32>
     ensures { option_to_list result ≡ bill_line line.now }
 {
-    numerals::month_in(after_key(line, b"bill=")?)
+    keyed(line, b"bill=", numerals::month_in)
 }
 
 // The second line of a month.
@@ -122,7 +104,7 @@ pub fn bill_line(line: &[u8]) -> Option<u32>
 pub fn critical_line(line: &[u8]) -> Option<u32>
     ensures { option_to_list result ≡ critical_line line.now }
 {
-    numerals::number_in(after_key(line, b"critical=")?)
+    keyed(line, b"critical=", numerals::number_in)
 }
 
 // A run of equal readings.
@@ -130,7 +112,7 @@ pub fn critical_line(line: &[u8]) -> Option<u32>
 pub fn run_line(line: &[u8]) -> Option<[u32; 3]>
     ensures { unwrap_or result [] ≡ run_line line.now }
 {
-    numerals::numbers_in(after_key(line, b"run=")?)?
+    keyed(line, b"run=", numerals::numbers_in)?
         .into_inner()
         .ok()
 }
