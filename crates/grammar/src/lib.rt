@@ -22,7 +22,8 @@ pub fn after_key<'a>(line: &'a [u8], key: &[u8]) -> Option<&'a [u8]>
     line.strip_prefix(key)
 }
 
-// One of two words.
+// One of two words, as a number, since the definition of a line is a list of numbers, as the grammar is written: values of their own types would be numbered again
+// for each contract.
 #[tactic(auto, using(crate::proofs::Texts::text_is), unfolding(crate::specs::Grammar::choice_in))]
 fn choice_in(text: &[u8], first: &[u8], second: &[u8]) -> Option<u32>
     ensures { option_to_list result ≡ choice_in first.now second.now text.now }
@@ -63,7 +64,8 @@ fn word(line: &[u8], key: &[u8], first: &[u8], second: &[u8]) -> Option<ArrayVec
     keyed(line, key, |text| choice_in(text, first, second)).map(alone)
 }
 
-// Line k + 1 of the fourteen that open the account. k is any number: a type of fourteen lines would ask more of callers.
+// Line k + 1 of the fourteen that open the account. k is any number: a type of fourteen lines would ask more of callers, and a `TryFrom`
+// to it would be a second match of fourteen.
 #[tactic(auto, unfolding(crate::specs::Grammar::opening_line, crate::specs::Grammar::keyed))]
 pub fn opening_line(k: u32, line: &[u8]) -> Option<ArrayVec<u32, MOST_NUMBERS>>
     ensures value { items_of result ≡ opening_line k line.now }
