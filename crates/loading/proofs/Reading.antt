@@ -1,5 +1,5 @@
 -- One row read after the other.
-use mathlib.Core.Path.{◌≡◌, refl, sym, ◌∙◌}
+use mathlib.Core.Path.{◌≡◌, refl, sym, ◌∙◌, subst}
 use mathlib.Core.Bool.{Bool, true, false}
 use mathlib.Core.List.{List, [], ◌∷◌}
 use mathlib.Core.Logic.{⊎_elim}
@@ -9,7 +9,10 @@ use borrow.Author.Tests.{eq-eqb, ne_eqb}
 use lib.Dec.{eqb}
 use lib.ListN.{length, take, drop, drop_of_length-le}
 use Rattle.std.proofs.lemmas.Bool.{cases_lt}
-use Rattle.std.specs.Option.{MatchOption}
+use Rattle.std.specs.Prelude.{Option, None, Some, Result}
+use Rattle.std.specs.Prelude.Result.{Ok, Err}
+use Rattle.std.specs.Option.{MatchOption, ok_or}
+use Rattle.std.specs.Result.{IsErr}
 use Rattle.std.specs.Bool.{then_some}
 use Rattle.text.specs.Text.{bytes_of, place_of, lines_from}
 use Rattle.text.proofs.Laws.{first_line}
@@ -17,6 +20,8 @@ use Rattle.std.proofs.lemmas.List.{take_rest}
 use Rattle.grammar.specs.Grammar.{keyed}
 use Rattle.loading.specs.Loading.{periods_in, schedule_lines, all_good, all_given, load_refused, load_number, table_after}
 use Rattle.loading.specs.Reading.{RowRefused, RowRead, RowsRefused, RowsRead}
+use Rattle.loading.specs.Numbers.{number_of}
+use Rattle.loading.specs.declared.ScheduleRefused.{ScheduleRefused}
 
 -- A text has no line,
 pub row_none : (key text : List ℕ) → length text ≡ 0 → RowRefused key text
@@ -73,6 +78,26 @@ module _ {text first second third rest a b c d : List ℕ}
         given = sym (p.given (drop 1 schedule_lines) ∙ rw (q.given (drop 2 schedule_lines), r.given (drop 3 schedule_lines), s.given []));
       }
   rows_all false e = good ∙ sym e
+
+-- Whether the lines of a text give rows.
+module _ (text : List ℕ) (o : Option (List (List ℕ))) (e : ScheduleRefused) (m : MatchOption o (RowsRefused text) (RowsRead text)) where
+  pub rows_absent : (f : ScheduleRefused) → ok_or o e ≡ Err f → RowsRefused text
+  rows_absent f h = by o m h
+    where
+      by : (o : Option (List (List ℕ))) → MatchOption o (RowsRefused text) (RowsRead text) → ok_or o e ≡ Err f → RowsRefused text
+      by None m h = m
+      by (Some rows) m h = absurd (cc)
+
+  pub rows_present : (rows : List (List ℕ)) → ok_or o e ≡ Ok rows → RowsRead text rows
+  rows_present rows h = by o m h
+    where
+      by : (o : Option (List (List ℕ))) → MatchOption o (RowsRefused text) (RowsRead text) → ok_or o e ≡ Ok rows → RowsRead text rows
+      by None m h = absurd (cc)
+      by (Some other) m h = let same : other ≡ rows = cc in subst (RowsRead text) same m
+
+pub refused_number : (r : Result (Unit {0}) ScheduleRefused) → IsErr r → number_of r ≡ 15
+refused_number (Ok loaded) h = absurd (cc)
+refused_number (Err refused) h = refl
 
 -- What a load answers, and the table after it: one of another length, and lines that are bad or good.
 module _ (text table : List ℕ) where

@@ -1,2 +1,3 @@
 pub mod Loading
+pub mod Numbers
 pub mod Reading

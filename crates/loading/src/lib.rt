@@ -3,6 +3,7 @@
 
 ghost use Rattle.std.specs.Prelude.{◌≡◌, [], MatchOption, unwrap_or};
 ghost use Rattle.loading.specs.Loading.{periods_in, load_number, table_after};
+ghost use Rattle.loading.specs.Numbers.{number_of};
 ghost use Rattle.loading.specs.Reading.{RowRefused, RowRead, RowsRefused, RowsRead};
 
 // The quarters of a row's line, and the rows.
@@ -10,10 +11,9 @@ const QUARTERS: usize = 96;
 
 const ROWS: usize = 4;
 
-// The numbers that a load answers: a rule, as the table of refusals has them.
-const LOADED: u32 = 0;
-
-const REFUSED: u32 = 15;
+// What is lent isn't loaded: row 15 of the table of refusals.
+#[derive(Clone, Copy, Debug, PartialEq, Eq)]
+pub struct ScheduleRefused;
 
 // The periods that digits write, if they are those of a row.
 fn periods_in(digits: &[u8]) -> Option<[u8; QUARTERS]>
@@ -23,6 +23,7 @@ fn periods_in(digits: &[u8]) -> Option<[u8; QUARTERS]>
         return None;
     }
     let mut periods = [0; QUARTERS];
+    // By places and not by `iter_mut().zip`, after which nothing is known of what was written.
     for (place, digit) in digits.iter().enumerate() {
         match digit {
             b'1'..=b'3' => periods[place] = digit - b'0',
@@ -60,19 +61,15 @@ fn rows_in(text: &[u8]) -> Option<[[u8; QUARTERS]; ROWS]>
     ])
 }
 
-// Loads a schedule from four lines into a table: 0, or 15 and the table unaltered. The rows are read aside, since the last one may be bad.
-pub fn load(text: &[u8], table: &mut [u8]) -> u32
-    ensures value { result ≡ load_number text.now table.old }
+// Loads a schedule from four lines into a table; a refused load leaves the table unaltered. The rows are read aside, since the last one may be bad.
+pub fn load(text: &[u8], table: &mut [u8]) -> Result<(), ScheduleRefused>
+    ensures value { number_of result ≡ load_number text.now table.old }
     ensures table_after { table.new ≡ table_after text.now table.old }
 {
     if table.len() != hours::SCHEDULE_LENGTH {
-        return REFUSED;
+        return Err(ScheduleRefused);
     }
-    match rows_in(text) {
-        Some(rows) => {
-            table.copy_from_slice(rows.as_flattened());
-            LOADED
-        }
-        None => REFUSED,
-    }
+    let rows = rows_in(text).ok_or(ScheduleRefused)?;
+    table.copy_from_slice(rows.as_flattened());
+    Ok(())
 }
