@@ -6,15 +6,13 @@ use Prim.Native.Nat.{ℕ, zero, suc, ◌+◌, ◌-◌, ◌≤◌, ◌<◌}
 use native.Mathlib.Omega.{arith}
 use borrow.Author.Tests.{leb-true, le-leb, lt-leb, eqb-true, eqb-false, eq-eqb, ne_eqb}
 use lib.Dec.{eqb, leb}
-use lib.ListN.{length, get_or, take, drop, length-take, length-drop}
-use lib.Seq.{drop-drop}
+use lib.ListN.{length, get_or, take, drop, length-drop}
 use Rattle.std.specs.Prelude.{Option, Some, None, is_some, OnSome, IfNone}
 use Rattle.std.proofs.lemmas.List.{take_rest, nil_from_length}
 use Rattle.text.specs.Text.{place_of}
 use Rattle.grammar.specs.Grammar.{run_line, bill_line}
 use Rattle.progress.specs.declared.readings.Run.{Run}
 use Rattle.progress.specs.declared.readings.Readings.{Readings}
-use Rattle.progress.specs.declared.RunLine.{RunLine}
 use Rattle.progress.specs.declared.Progress.{Progress}
 use Rattle.progress.specs.declared.Text.TheVariants.{Nothing}
 use Rattle.lines.specs.Statement.{State, Outcome, outcome, fault, counted, with_run, run_read, run_or_bill_read, begun, month_end, line_read}
@@ -22,7 +20,7 @@ use Rattle.lines.specs.Feeding.{Registers, with_readings}
 use Rattle.progress.specs.Expected.{number_of}
 use Rattle.progress.specs.Readings.{delivered_of, Adds, Refuses}
 use Rattle.progress.specs.Progressing.{state_of, registers_held, line_at, is_run, is_run_expected, runs_bytes, runs_state, RunsRead}
-use Rattle.progress.specs.Ending.{run_from, run_of, with_bytes, first_run, Steps, Changes}
+use Rattle.progress.specs.Ending.{run_from, run_of, NoRun, FirstRun, Steps, Changes}
 use Rattle.text.proofs.Laws.{place_within}
 use Rattle.progress.proofs.Lines.{held_same, faulty}
 use Rattle.lines.proofs.Buffers.{readings_over}
@@ -103,71 +101,41 @@ module _ (l : List ℕ) (s : State) where
     later_month n k = later_bill l s n (none_numbers l h) k
 
 -- The run line at the front of an input.
-pub first_absent : (l : List ℕ) → length l ≡ place_of 10 l → None ≡ first_run l
-unfolding first_run
-first_absent l h = rw (eq-eqb (place_of 10 l) (length l) (sym h))
+pub first_absent : (l : List ℕ) → length l ≡ place_of 10 l → NoRun l
+unfolding is_run
+first_absent l h n = rw (eq-eqb (place_of 10 l) (length l) (sym h))
 
-module _ (l : List ℕ) (p : ℕ) (at : p ≡ place_of 10 l) (some : p < length l) (r : Option Run) (e : r ≡ run_of (take p l)) where
-  first_by : with_bytes (p + 1) r ≡ first_run l
-  unfolding first_run
-  first_by = rw (ne_eqb (place_of 10 l) (length l) (λ h. omega arith), ← at, ← e)
+module _ (l : List ℕ) (p : ℕ) (at : p ≡ place_of 10 l) (some : p < length l) where
+  pub first_not : None ≡ run_of (take p l) → NoRun l
+  unfolding is_run
+  first_not e n =
+      let none = none_numbers (line_at l) (e ∙ ap (λ (k : ℕ). run_of (take k l)) at) in
+      rw (ne_eqb (place_of 10 l) (length l) (λ h. omega arith), eq-eqb (length (run_line (line_at l))) 0 (ap length (sym none)))
 
-  pub first_not : r ≡ None → None ≡ first_run l
-  first_not h = rw h at first_by
-
-  pub first_is : (run : Run) → r ≡ Some run → Some (record { bytes = p + 1; run = run }) ≡ first_run l
-  first_is run h = rw h at first_by
-
--- What that says.
-pub record First (l : List ℕ) (line : RunLine) : Type 0 where
-  pub newline : place_of 10 l < length l
-  pub run : Some line.run ≡ run_of (line_at l)
-  pub bytes : line.bytes ≡ place_of 10 l + 1
-
-pub first_some : (l : List ℕ) (line : RunLine) → Some line ≡ first_run l → First l line
-unfolding first_run
-first_some l line h = by (eqb (place_of 10 l) (length l)) (run_of (line_at l)) refl refl h
-  where
-    by : (b : Bool) (r : Option Run) → eqb (place_of 10 l) (length l) ≡ b → run_of (line_at l) ≡ r
-        → Some line ≡ cond b None (with_bytes (place_of 10 l + 1) r) → First l line
-    by true r p q e = absurd (cc)
-    by false None p q e = absurd (cc)
-    by false (Some run) p q e =
-        let is : line ≡ record { bytes = place_of 10 l + 1; run = run } = cc in
-        record {
-          newline = omega (arith, place_within 10 l, eqb-false (place_of 10 l) (length l) p);
-          run = ap (λ (y : RunLine). Some y.run) is ∙ sym q;
-          bytes = ap (λ (y : RunLine). y.bytes) is;
-        }
-
--- Where there is none, none is taken.
-pub first_none : (l : List ℕ) (n : ℕ) → None ≡ first_run l → is_run l n ≡ false
-unfolding first_run is_run
-first_none l n h = by (eqb (place_of 10 l) (length l)) (run_of (line_at l)) refl refl h
-  where
-    by : (b : Bool) (r : Option Run) → eqb (place_of 10 l) (length l) ≡ b → run_of (line_at l) ≡ r
-        → None ≡ cond b None (with_bytes (place_of 10 l + 1) r)
-        → cond (eqb (place_of 10 l) (length l)) false (cond (eqb (length (run_line (line_at l))) 0) false (leb (n + get_or (run_line (line_at l)) 0 0) 2976)) ≡ false
-    by true r p q e = rw p
-    by false None p q e = rw (p, eq-eqb (length (run_line (line_at l))) 0 (ap length (sym (none_numbers (line_at l) (sym q)))))
-    by false (Some run) p q e = absurd (cc)
+  pub first_is : (run : Run) (rest : List ℕ) → Some run ≡ run_of (take p l) → rest ≡ drop (p + 1) l → FirstRun l run rest
+  first_is run rest e r =
+      record {
+        newline = omega arith;
+        reads = e ∙ ap (λ (k : ℕ). run_of (take k l)) at;
+        behind = r ∙ ap (λ (k : ℕ). drop (k + 1) l) at;
+      }
 
 -- Where there is one, it is taken if it fits.
-module _ (l : List ℕ) (line : RunLine) (w : First l line) (n : ℕ) where
+module _ (l : List ℕ) (first : Run) (rest : List ℕ) (w : FirstRun l first rest) (n : ℕ) where
   numbers : eqb (length (run_line (line_at l))) 0 ≡ false
-  numbers = ne_eqb (length (run_line (line_at l))) 0 (some_numbers (line_at l) line.run w.run).0
+  numbers = ne_eqb (length (run_line (line_at l))) 0 (some_numbers (line_at l) first w.reads).0
 
   newline : eqb (place_of 10 l) (length l) ≡ false
   newline = let h = w.newline in ne_eqb (place_of 10 l) (length l) (λ e. omega arith)
 
-  count : line.run.count ≡ get_or (run_line (line_at l)) 0 0
-  count = ap (λ (y : Run). y.count) (some_numbers (line_at l) line.run w.run).1
+  count : first.count ≡ get_or (run_line (line_at l)) 0 0
+  count = ap (λ (y : Run). y.count) (some_numbers (line_at l) first w.reads).1
 
-  pub run_past : 2976 < n + line.run.count → is_run l n ≡ false
+  pub run_past : 2976 < n + first.count → is_run l n ≡ false
   unfolding is_run
   run_past h = rw (newline, numbers) (lt-leb (n + get_or (run_line (line_at l)) 0 0) 2976 (omega (arith, count)))
 
-  pub run_there : n + line.run.count ≤ 2976 → is_run l n ≡ true
+  pub run_there : n + first.count ≤ 2976 → is_run l n ≡ true
   unfolding is_run
   run_there h = rw (newline, numbers) (le-leb (n + get_or (run_line (line_at l)) 0 0) 2976 (omega (arith, count)))
 
@@ -288,68 +256,47 @@ same_runs (suc n) (suc m) l s h k =
           state = state_more n l s e ∙ w.state ∙ sym (state_more m l s e);
         }
 
--- So many bytes have been taken, s is the state then, and q the registers.
-pub record Running (before : State) (r : Registers) (input : List ℕ) (taken : ℕ) (s : State) (q : Registers) : Type 0 where
-  pub within : taken ≤ length input
-  pub bytes : runs_bytes (length input) input before ≡ taken + runs_bytes (length input - taken) (drop taken input) s
-  pub state : runs_state (length input) input before ≡ runs_state (length input - taken) (drop taken input) s
+-- A rest of the input is left, s is the state then, and q the registers.
+pub record Running (before : State) (r : Registers) (input rest : List ℕ) (s : State) (q : Registers) : Type 0 where
+  pub within : length rest ≤ length input
+  pub bytes : runs_bytes (length input) input before + length rest ≡ length input + runs_bytes (length rest) rest s
+  pub state : runs_state (length input) input before ≡ runs_state (length rest) rest s
   pub registers : q ≡ with_readings s r
 
-pub running_start : (before s : State) (r : Registers) (input : List ℕ) → s ≡ before → r ≡ with_readings s r → Running before r input 0 s r
-running_start before s r input e k =
-    let all : length input - 0 ≡ length input = omega arith in
-    record {
-      within = omega arith;
-      bytes = rw (all, e) (omega arith);
-      state = rw (all, e);
-      registers = k;
-    }
-
--- They are all: as in `RunsRead`.
-pub record Ran (before : State) (r : Registers) (input : List ℕ) (taken : ℕ) (s : State) (q : Registers) : Type 0 where
-  pub takes : taken ≡ runs_bytes (length input) input before
+-- What is before it was taken: as in `RunsRead`.
+pub record Ran (before : State) (r : Registers) (input rest : List ℕ) (s : State) (q : Registers) : Type 0 where
+  pub takes : length input - length rest ≡ runs_bytes (length input) input before
   pub state : s ≡ runs_state (length input) input before
   pub registers : q ≡ with_readings s r
 
--- The code lends what is left of the input.
-module _ (before s : State) (r q : Registers) (input : List ℕ) (taken : ℕ) (w : Running before r input taken s q) where
-  pub running_none : is_run_expected (take (length input - taken) (drop taken input)) s ≡ false → Ran before r input taken s q
-  running_none h =
-      let e : is_run_expected (drop taken input) s ≡ false = rw (take_rest input taken) at h in
-      record {
-        takes = sym (w.bytes ∙ rw (bytes_none (length input - taken) (drop taken input) s e) (omega arith));
-        state = sym (w.state ∙ state_none (length input - taken) (drop taken input) s e);
-        registers = w.registers;
-      }
+module _ (before s : State) (r q : Registers) (input rest : List ℕ) (w : Running before r input rest s q) where
+  pub running_none : is_run_expected rest s ≡ false → Ran before r input rest s q
+  running_none h = record {
+    takes = omega (arith, w.within, w.bytes, bytes_none (length rest) rest s h);
+    state = sym (w.state ∙ state_none (length rest) rest s h);
+    registers = w.registers;
+  }
 
-  pub running_more : (t : State) (p : Registers) (more : ℕ) → is_run_expected (take (length input - taken) (drop taken input)) s ≡ true
-      → more ≡ place_of 10 (take (length input - taken) (drop taken input)) + 1
-      → t ≡ (line_read (line_at (take (length input - taken) (drop taken input))) s).state → p ≡ with_readings t r → Running before r input (taken + more) t p
-  running_more t p more h k f v =
-      let rest = drop taken input in
-      let expected : is_run_expected rest s ≡ true = rw (take_rest input taken) at h in
-      let bytes : more ≡ place_of 10 rest + 1 = rw (take_rest input taken) at k in
-      let then : t ≡ (line_read (line_at rest) s).state = rw (take_rest input taken) at f in
-      let newline = expected_newline rest s expected in
-      let long = length-drop taken input in
-      let less : length input - taken ≡ suc (length input - taken - 1) = omega (arith, newline, long) in
-      let later : drop (place_of 10 rest + 1) rest ≡ drop (taken + more) input
-      = drop-drop (place_of 10 rest + 1) taken input ∙ ap (λ (k : ℕ). drop (taken + k) input) (sym bytes) in
-      let same = same_runs (length input - taken - 1) (length input - (taken + more)) (drop (taken + more) input) t
-      (omega (arith, length-drop (taken + more) input, bytes, newline, long))
-      (omega (arith, length-drop (taken + more) input)) in
-      let some : runs_bytes (length input - taken) rest s ≡ more + runs_bytes (length input - (taken + more)) (drop (taken + more) input) t
-      = rw (less, bytes_more (length input - taken - 1) rest s expected, later, ← then, ← bytes) (ap (λ (b : ℕ). more + b) same.bytes) in
+  pub running_more : (t : State) (p : Registers) (later : List ℕ) → is_run_expected rest s ≡ true → later ≡ drop (place_of 10 rest + 1) rest
+      → t ≡ (line_read (line_at rest) s).state → p ≡ with_readings t r → Running before r input later t p
+  running_more t p later h k f v =
+      let newline = expected_newline rest s h in
+      let long : length later ≡ length rest - (place_of 10 rest + 1) = ap length k ∙ length-drop (place_of 10 rest + 1) rest in
+      let less : length rest ≡ suc (length rest - 1) = omega (arith, newline) in
+      let same = same_runs (length rest - 1) (length later) later t (omega (arith, long)) (omega arith) in
+      let some : runs_bytes (length rest) rest s ≡ place_of 10 rest + 1 + runs_bytes (length later) later t
+      = ap (λ (n : ℕ). runs_bytes n rest s) less ∙ bytes_more (length rest - 1) rest s h
+      ∙ rw (← k, ← f) (ap (λ (b : ℕ). place_of 10 rest + 1 + b) same.bytes) in
       record {
-        within = omega (arith, newline, long, bytes);
-        bytes = omega (arith, w.bytes, some);
-        state = w.state ∙ rw (less, state_more (length input - taken - 1) rest s expected, later, ← then) same.state;
+        within = omega (arith, long, w.within);
+        bytes = omega (arith, w.bytes, some, long, newline);
+        state = w.state ∙ ap (λ (n : ℕ). runs_state n rest s) less ∙ state_more (length rest - 1) rest s h ∙ rw (← k, ← f) same.state;
         registers = v;
       }
 
--- Before the first turn nothing was taken.
-pub running_from : (x : Progress) (input : List ℕ) → Running (state_of x) (registers_held x) input 0 (state_of x) (registers_held x)
-running_from x input = running_start (state_of x) (state_of x) (registers_held x) input refl (held_same x)
+-- Before the first turn all is left.
+pub running_from : (x : Progress) (input : List ℕ) → Running (state_of x) (registers_held x) input input (state_of x) (registers_held x)
+running_from x input = record { within = omega arith; bytes = omega arith; state = refl; registers = held_same x }
 
 -- Whether a run was stored.
 pub added : (o : Option (Unit {0})) (P : Type 0) → is_some o ≡ true → OnSome o P → P
@@ -363,9 +310,12 @@ refused (Some x) P h w = absurd (cc)
 -- No run is expected: none is taken.
 pub ran_other : (x : Progress) (input : List ℕ) → (number_of x.expected ≡ 16 → ⊥) → RunsRead x input 0 x
 ran_other x input h =
-    let e = running_none (state_of x) (state_of x) (registers_held x) (registers_held x) input 0 (running_from x input)
-    (not-expected (take (length input - 0) (drop 0 input)) (state_of x) h) in
-    record { takes = e.takes; state = e.state; registers = e.registers }
+    let e = not-expected input (state_of x) h in
+    record {
+      takes = sym (bytes_none (length input) input (state_of x) e);
+      state = sym (state_none (length input) input (state_of x) e);
+      registers = held_same x;
+    }
 
 -- The registers after a run and its count: r is what they were at first.
 held_after : (r : Registers) (y z : Progress) (run : Run) (m : Readings) → Adds y.readings run m → Changes (reading y m) counted z
@@ -377,52 +327,35 @@ held_after r y z run m a c w =
     ∙ sym (ap (λ (s : State). with_readings s r) c.state)
 
 -- x is the progress before the loop and y that in it.
-module _ (x y : Progress) (input : List ℕ) (taken : ℕ) (w : Running (state_of x) (registers_held x) input taken (state_of y) (registers_held y)) where
-  pub ran : is_run_expected (take (length input - taken) (drop taken input)) (state_of y) ≡ false → RunsRead x input taken y
+module _ (x y : Progress) (input rest : List ℕ) (w : Running (state_of x) (registers_held x) input rest (state_of y) (registers_held y)) where
+  ran : is_run_expected rest (state_of y) ≡ false → RunsRead x input (length input - length rest) y
   ran h =
-      let e = running_none (state_of x) (state_of y) (registers_held x) (registers_held y) input taken w h in
+      let e = running_none (state_of x) (state_of y) (registers_held x) (registers_held y) input rest w h in
       record { takes = e.takes; state = e.state; registers = e.registers }
 
   module _ (h : number_of y.expected ≡ 16) where
-    pub ran_none : None ≡ first_run (take (length input - taken) (drop taken input)) → RunsRead x input taken y
-    ran_none e =
-        let rest = take (length input - taken) (drop taken input) in
-        ran (is-expected rest (state_of y) false h (first_none rest (length (delivered_of y.readings)) e))
+    pub ran_none : NoRun rest → RunsRead x input (length input - length rest) y
+    ran_none e = ran (is-expected rest (state_of y) false h (e (length (delivered_of y.readings))))
 
-    module _ (line : RunLine) (e : Some line ≡ first_run (take (length input - taken) (drop taken input))) where
-      found : First (take (length input - taken) (drop taken input)) line
-      found = first_some (take (length input - taken) (drop taken input)) line e
-
-      pub ran_full : (m : Readings) → Refuses y.readings line.run m → RunsRead x input taken (reading y m)
+    module _ (run : Run) (behind : List ℕ) (first : FirstRun rest run behind) where
+      pub ran_full : (m : Readings) → Refuses y.readings run m → RunsRead x input (length input - length rest) (reading y m)
       ran_full m r =
-          let rest = take (length input - taken) (drop taken input) in
-          let full = ran (is-expected rest (state_of y) false h (run_past rest line found (length (delivered_of y.readings)) r.full)) in
-          subst (λ (k : Readings). RunsRead x input taken (reading y k)) (sym r.same) full
-
-      pub turn_within : taken + line.bytes ≤ length input
-      turn_within =
-          let f = found in
-          let less = f.newline in
-          let bytes = f.bytes in
-          omega (arith, length-take (length input - taken) (drop taken input), length-drop taken input)
-
-      pub turn_some : 0 < line.bytes
-      turn_some = let bytes = found.bytes in omega arith
+          let full = ran (is-expected rest (state_of y) false h (run_past rest run behind first (length (delivered_of y.readings)) r.full)) in
+          subst (λ (k : Readings). RunsRead x input (length input - length rest) (reading y k)) (sym r.same) full
 
       -- A run is stored, and the line is counted.
-      pub turn : (m : Readings) (z : Progress) → Adds y.readings line.run m → Changes (reading y m) counted z
-          → Running (state_of x) (registers_held x) input (taken + line.bytes) (state_of z) (registers_held z)
+      pub turn : (m : Readings) (z : Progress) → Adds y.readings run m → Changes (reading y m) counted z
+          → Running (state_of x) (registers_held x) input behind (state_of z) (registers_held z)
       unfolding counted
       turn m z a c =
-          let rest = take (length input - taken) (drop taken input) in
           let n = length (delivered_of y.readings) in
-          let there = is-expected rest (state_of y) true h (run_there rest line found n a.fits) in
-          let run = (some_numbers (line_at rest) line.run found.run).1 in
+          let there = is-expected rest (state_of y) true h (run_there rest run behind first n a.fits) in
+          let reads = (some_numbers (line_at rest) run first.reads).1 in
           let read = ap (λ (o : Outcome). o.state) (run_read_lem rest (state_of y) there) in
-          running_more (state_of x) (state_of y) (registers_held x) (registers_held y) input taken w (state_of z) (registers_held z) line.bytes there
-          found.bytes
-          (c.state ∙ rw (a.delivered, a.received, run) (sym read))
-          (held_after (registers_held x) y z line.run m a c w.registers)
+          running_more (state_of x) (state_of y) (registers_held x) (registers_held y) input rest w (state_of z) (registers_held z) behind there
+          first.behind
+          (c.state ∙ rw (a.delivered, a.received, reads) (sym read))
+          (held_after (registers_held x) y z run m a c w.registers)
 
 pub still_run : (y z : Progress) (m : Readings) → number_of y.expected ≡ 16 → Changes (reading y m) counted z → number_of z.expected ≡ 16
 unfolding counted

@@ -1,23 +1,25 @@
 -- What the private functions promise each other. No public contract cites this file.
-use Rattle.std.specs.Prelude.{◌≡◌, cond, List, [], ℕ, ◌+◌, eqb, length, get_or}
+use Rattle.std.specs.Prelude.{◌≡◌, ◌<◌, false, cond, List, [], ℕ, ◌+◌, length, get_or, drop}
 use Rattle.std.specs.Prelude.{Option, None, Some}
+use Rattle.std.specs.Result.{result_unwrap_or}
 use Rattle.text.specs.Text.{place_of}
+use Rattle.refusals.specs.Numbers.{number_of}
+use Rattle.billing.specs.Billing.{no_bill}
 use Rattle.grammar.specs.Grammar.{run_line}
 use Rattle.printing.specs.Printing.{bill_text, open_text, line_text}
 use Rattle.lines.specs.Statement.{State, Outcome, outcome, fault, is_unreadable}
 use Rattle.lines.specs.Feeding.{with_readings}
 use Rattle.progress.specs.declared.Progress.{Progress}
 use Rattle.progress.specs.declared.readings.Run.{Run}
-use Rattle.progress.specs.declared.RunLine.{RunLine}
 use Rattle.progress.specs.declared.Text.{Text}
 use Rattle.progress.specs.declared.Text.TheVariants.{Nothing, Line, Open, Month}
-use Rattle.progress.specs.Progressing.{state_of, registers_held, line_at}
+use Rattle.progress.specs.Progressing.{state_of, registers_held, line_at, is_run}
 
 abbrev pub text_of : Text → List ℕ
 text_of Nothing = []
 text_of (Line number) = line_text number
-text_of (Open number) = open_text number
-text_of (Month month number bill) = bill_text month number bill
+text_of (Open answer) = open_text (number_of answer)
+text_of (Month month answer) = bill_text month (number_of answer) (result_unwrap_or answer no_bill)
 
 -- What a line does: where nothing is answered, it is at fault.
 abbrev pub outcome_of : Option Text → State → Outcome
@@ -39,16 +41,18 @@ pub record Changes (before : Progress) (f : State → State) (later : Progress) 
   pub state : state_of later ≡ f (state_of before)
   pub registers : registers_held later ≡ registers_held before
 
--- The run that three numbers stand for; that of a readable run line; and the one at the front of an input, where it is complete.
+-- The run that three numbers stand for, and that of a readable run line.
 abbrev pub run_from : List ℕ → Run
 run_from v = record { count = get_or v 0 0; delivered = get_or v 1 0; received = get_or v 2 0 }
 
 unfoldable pub run_of : List ℕ → Option Run
 run_of l = cond (is_unreadable (run_line l)) None (Some (run_from (run_line l)))
 
-abbrev pub with_bytes : ℕ → Option Run → Option RunLine
-with_bytes n None = None
-with_bytes n (Some run) = Some (record { bytes = n; run = run })
+-- No run line can be taken from the front of an input, whatever readings there are; or it begins with a readable one, and what is behind it is the rest.
+abbrev pub NoRun : List ℕ → Type 0
+NoRun l = (n : ℕ) → is_run l n ≡ false
 
-unfoldable pub first_run : List ℕ → Option RunLine
-first_run l = cond (eqb (place_of 10 l) (length l)) None (with_bytes (place_of 10 l + 1) (run_of (line_at l)))
+pub record FirstRun (l : List ℕ) (run : Run) (rest : List ℕ) : Type 0 where
+  pub newline : place_of 10 l < length l
+  pub reads : Some run ≡ run_of (line_at l)
+  pub behind : rest ≡ drop (place_of 10 l + 1) l

@@ -1,16 +1,16 @@
 // A line of `statement` is read: the progress after it, and its text.
 #![tactic(auto)]
 
-ghost use Rattle.std.specs.Prelude.{◌≡◌, ◌≤◌, ◌<◌, length};
+ghost use Rattle.std.specs.Prelude.{◌≡◌, ◌≤◌, ◌<◌, length, MatchOption};
 ghost use Rattle.grammar.specs.Grammar.{opening_line, bill_line, critical_line, run_line};
+ghost use Rattle.refusals.specs.Numbers.{number_of};
 ghost use Rattle.account.specs.Replies.{reply_with_bill};
-ghost use Rattle.printing.specs.Printing.{bill_text};
 ghost use Rattle.printing.specs.Writing.{Put};
 ghost use Rattle.lines.specs.Statement.{start, has_stopped, at_end, next_number, counted, begun, month_reply, month_end, opening_read, bill_read, critical_read, run_read, run_or_bill_read, expected_read, opened, fault};
 ghost use Rattle.progress.specs.Values.{values_of};
-ghost use Rattle.progress.specs.Expected.{line_place, number_of};
+ghost use Rattle.progress.specs.Expected.{line_place};
 ghost use Rattle.progress.specs.Progressing.{state_of, Reads, RunsRead};
-ghost use Rattle.progress.specs.Ending.{text_of, Steps, Tells, Changes, run_of, first_run};
+ghost use Rattle.progress.specs.Ending.{text_of, Steps, Tells, Changes, run_of, NoRun, FirstRun};
 
 mod expected;
 mod opening;
@@ -21,6 +21,7 @@ use billing::Bill;
 use expected::{Expected, OpeningLine};
 use opening::Opening;
 use readings::{Readings, Run};
+use refusals::Refusal;
 
 // What the lines so far have given.
 #[derive(Drop)]
@@ -34,21 +35,14 @@ pub struct Progress {
     readings: Readings,
 }
 
-// What is printed for a line or at the end: the number of a line that is at fault or absent, the opening's number, or a month as entered with its
-// number and its bill.
+// What is printed for a line or at the end: the number of a line that is at fault or absent, the answer to the opening, or a month as entered with the
+// answer to its billing.
 #[derive(Clone, Copy)]
 enum Text {
     Nothing,
     Line(u64),
-    Open(u32),
-    Month(u32, u32, Bill),
-}
-
-// A run line at the front of an input: its bytes with its newline, and its run.
-#[derive(Clone, Copy)]
-struct RunLine {
-    bytes: usize,
-    run: Run,
+    Open(Result<(), Refusal>),
+    Month(u32, Result<Bill, Refusal>),
 }
 
 // The run of a line, where it is a readable run line.
@@ -63,28 +57,35 @@ fn run_in(line: &[u8]) -> Option<Run>
     })
 }
 
-// The run line at the front of an input, where it is complete and readable.
-fn first_run(input: &[u8]) -> Option<RunLine>
-    ensures { result ≡ first_run input.now }
+// The run of the line at the front of an input, where it is complete and readable, and what is behind the line.
+fn first_run(input: &[u8]) -> Option<(Run, &[u8])>
+    ensures { MatchOption result (NoRun input.now) (λ first. FirstRun input.now first.0 first.1.now) }
 {
     let end = text::find(b'\n', input)?;
     let run = run_in(&input[..end])?;
-    Some(RunLine {
-        bytes: end + 1,
-        run,
-    })
+    Some((run, &input[end + 1..]))
+}
+
+// The number of an answer in the table of refusals: 0 where the call is accepted.
+fn number_of<T: Copy>(answer: Result<T, Refusal>) -> u32
+    ensures { result ≡ number_of answer }
+{
+    answer.map_or_else(u32::from, |_| 0)
 }
 
 impl Text {
-    // Writes it to the front of a buffer, where there is room for any text, and says how many bytes it has.
+    // Writes it to the front of a buffer, where there is room for any text, and says how many bytes it has. A refused month's amounts are 0.
+    #[tactic(auto, using(billing::proofs::Laws::bill_or_default))]
     fn put(self, out: &mut [u8]) -> usize
         ensures { Put out.old 0 (text_of self) out.new result }
     {
         match self {
             Text::Nothing => 0,
             Text::Line(number) => printing::put_line(out, number),
-            Text::Open(number) => printing::put_open(out, number),
-            Text::Month(month, number, bill) => printing::put_bill(out, month, number, bill),
+            Text::Open(answer) => printing::put_open(out, number_of(answer)),
+            Text::Month(month, answer) => {
+                printing::put_bill(out, month, number_of(answer), answer.unwrap_or_default())
+            }
         }
     }
 }
@@ -133,7 +134,7 @@ impl Progress {
     {
         let reply = self.opening.open(self.account);
         self.account = reply.account;
-        Text::Open(reply.number())
+        Text::Open(reply.answer)
     }
 
     // A line of the opening. Nothing changes where it is at fault, here and below.
@@ -197,21 +198,13 @@ impl Progress {
         )
     }
 
-    // Its text: a refused month's amounts are 0.
-    #[tactic(auto, using(billing::proofs::Laws::bill_or_default))]
-    fn month_text(&self, reply: Reply<Bill>) -> Text
-        ensures { text_of result ≡ bill_text self.now.month (reply_with_bill reply).number (reply_with_bill reply).bill }
-    {
-        Text::Month(self.month, reply.number(), reply.answer.unwrap_or_default())
-    }
-
     // The account after that, and the month's text.
     fn end_month(&mut self) -> Text
         ensures { Tells self.old (month_end (state_of self.old)) result self.new }
     {
         let reply = self.month_reply();
         self.account = reply.account;
-        self.month_text(reply)
+        Text::Month(self.month, reply.answer)
     }
 
     // A run, or the bill line of the next month.
@@ -274,18 +267,18 @@ impl Progress {
     pub fn read_runs(&mut self, input: &[u8]) -> usize
         ensures { RunsRead self.old input.now result self.new }
     {
-        let mut taken = 0;
         let Expected::Run = self.expected else {
-            return taken;
+            return 0;
         };
-        while let Some(line) = first_run(&input[taken..]) {
-            if self.readings.add(line.run).is_none() {
-                return taken;
+        let mut rest = input;
+        while let Some((run, behind)) = first_run(rest) {
+            if self.readings.add(run).is_none() {
+                break;
             }
             self.count();
-            taken += line.bytes;
+            rest = behind;
         }
-        taken
+        input.len() - rest.len()
     }
 
     // What is printed at the end of the input after a whole line.
@@ -295,10 +288,7 @@ impl Progress {
         match self.expected {
             // Fourteen lines with nothing after them are complete.
             Expected::Bill => Text::Nothing,
-            Expected::Run => {
-                let reply = self.month_reply();
-                self.month_text(reply)
-            }
+            Expected::Run => Text::Month(self.month, self.month_reply().answer),
             // A line is absent.
             Expected::Opening(_) | Expected::Critical => Text::Line(self.next_line()),
             // The fault has been told.

@@ -24,7 +24,7 @@ pub struct Opening {
 fn number_at(numbers: &[u32], place: usize) -> u64
     ensures { result ≡ get_or numbers.now place 0 }
 {
-    numbers.get(place).copied().map_or(0, u64::from)
+    u64::from(text::at_or(numbers, place, 0))
 }
 
 impl Opening {
@@ -50,8 +50,8 @@ impl Opening {
     {
         let number = number_at(numbers, 0);
         match line {
-            OpeningLine::Opens => self.month = numbers.first().copied().unwrap_or(0),
-            // The words of these two lines are numbered as the codes are.
+            OpeningLine::Opens => self.month = text::at_or(numbers, 0, 0),
+            // A line gives numbers, as its definition does: the two words of these lines are 0 and 1, as the codes are.
             OpeningLine::Rider => {
                 self.terms.rider = Rider::try_from(number).unwrap_or(Rider::Bridge);
             }

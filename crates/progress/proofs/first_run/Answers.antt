@@ -1,15 +1,18 @@
 -- `progress::first_run` asks for a newline and then for a run before it.
-use mathlib.Core.Path.{◌∙◌}
+use mathlib.Core.Path.{sym, ◌∙◌}
+use Prim.Native.Nat.{◌+◌}
+use Rattle.text.proofs.Lists.{rest_is}
 use Rattle.progress.proofs.RunLines.{first_absent, first_not, first_is}
 use Rattle.progress.proofs.first_run.Goals as goal
 
 pub returns-in_err-end : goal.returns-in_err-end
-returns-in_err-end c = c.from_residual.ensures ∙ first_absent c.args.input.now c.in_err-end.ensures.place
+returns-in_err-end c = rw c.from_residual.ensures (first_absent c.args.input.now c.in_err-end.ensures.place)
 
 pub returns-in_err-run : goal.returns-in_err-run
 returns-in_err-run c =
-    c.from_residual-in_err-run.ensures
-    ∙ first_not c.args.input.now _ c.in_ok-end.ensures.place c.in_ok-end.ensures.within _ c.run_in.ensures c.in_err-run.was
+    rw c.from_residual-in_err-run.ensures
+    (first_not c.args.input.now _ c.in_ok-end.ensures.place c.in_ok-end.ensures.within (sym c.in_err-run.was ∙ c.run_in.ensures))
 
 pub returns : goal.returns
-returns c = first_is c.args.input.now _ c.in_ok-end.ensures.place c.in_ok-end.ensures.within _ c.run_in.ensures _ c.in_ok-run.was
+returns c =
+    first_is c.args.input.now _ c.in_ok-end.ensures.place c.in_ok-end.ensures.within _ _ (sym c.in_ok-run.was ∙ c.run_in.ensures) (rest_is (c.in_ok-end.end + 1) c.args.input.now)

@@ -7,6 +7,6 @@ use Rattle.progress.proofs.Progress.end_month.Goals as goal
 pub returns : goal.returns
 returns c =
     record {
-      outcome = rw c.month_text.ensures (sym (month_ends (state_of c.args.self.now) _ c.month_reply-reply.ensures));
+      outcome = sym (month_ends (state_of c.args.self.now) _ c.month_reply-reply.ensures);
       registers = refl;
     }

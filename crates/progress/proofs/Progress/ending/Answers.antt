@@ -1,5 +1,5 @@
 -- `progress::Progress::ending` asks what is expected.
-use mathlib.Core.Path.{◌≡◌, refl, sym, ◌∙◌, ap}
+use mathlib.Core.Path.{◌≡◌, refl, sym, ap}
 use native.Mathlib.Omega.{arith}
 use Rattle.lines.proofs.Laws.{end_opened, end_stopped, end_month}
 use Rattle.progress.specs.Expected.{number_of}
@@ -20,7 +20,7 @@ pub returns-in-Run : goal.returns-in-Run
 returns-in-Run c =
     let s = state_of c.args.self.now in
     let k : s.expected ≡ 16 = ap number_of c.in-Run.is in
-    c.month_text.ensures ∙ sym (end_month s _ c.month_reply-reply.ensures (λ q. omega arith) (omega arith) k)
+    sym (end_month s _ c.month_reply.ensures (λ q. omega arith) (omega arith) k)
 
 pub returns-in-Opening : goal.returns-in-Opening
 returns-in-Opening c = end_line (state_of c.args.self.now) _ _ refl c.next_line.ensures c.in-Opening.is

@@ -7,6 +7,6 @@ use Rattle.progress.proofs.Progress.open.Goals as goal
 pub returns : goal.returns
 returns c =
     record {
-      outcome = rw c.number.ensures (sym (account_opens (state_of c.args.self.now) _ c.open-reply.ensures));
+      outcome = sym (account_opens (state_of c.args.self.now) _ c.open-reply.ensures);
       registers = refl;
     }
