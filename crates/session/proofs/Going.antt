@@ -1,13 +1,13 @@
 -- What a session has taken and written so far, line by line.
 use mathlib.Core.Path.{◌≡◌, refl, sym, ◌∙◌, ap}
-use mathlib.Core.Bool.{Bool, true, false, not}
-use mathlib.Core.List.{List, ◌++◌}
-use Prim.Native.Nat.{ℕ, ◌+◌, ◌-◌, ◌≤◌, ◌<◌}
+use mathlib.Core.Bool.{Bool, true, false, false≢true, not}
+use mathlib.Core.List.{List, [], ◌∷◌, ◌++◌}
+use Prim.Native.Nat.{ℕ, zero, suc, ◌+◌, ◌-◌, ◌≤◌, ◌<◌}
 use native.Mathlib.Nat.{sub-zero}
 use native.Mathlib.Omega.{arith}
 use borrow.Author.Tests.{le-leb, lt-leb, leb-true, leb-false, not-true, not-false}
-use lib.Dec.{leb}
-use lib.ListN.{length, take, drop, length-take, length-drop, drop_of_length-le}
+use lib.Dec.{eqb, leb}
+use lib.ListN.{length, take, drop, length-take, length-drop}
 use lib.Seq.{length-sets, take-add, drop-drop}
 use Rattle.printing.specs.Writing.{fits, has_room, Wrote}
 use Rattle.lines.specs.Feeding.{after, printed, taken_of, registers_after}
@@ -15,14 +15,14 @@ use Rattle.session.specs.declared.Session.{Session}
 use Rattle.session.specs.Sessions.{so_far_of, registers_of, least_room, Feeds}
 use Rattle.session.specs.Taking.{Takes}
 use borrow.Rule.Slice.PartMut.{put_mid}
-use Rattle.std.proofs.lemmas.List.{take_rest}
 use Rattle.printing.proofs.Writing.{then, wrote_part}
 use Rattle.lines.proofs.Buffers.{cut_registers}
 use Rattle.lines.proofs.Streams.{cut_text, cut_state}
 use Rattle.session.proofs.Taking.{none_taken}
 
-pub record Going (x : Session) (input out : List ℕ) (taken : ℕ) (y : Session) (written : ℕ) (out_current : List ℕ) : Type 0 where
-  pub takes : taken_of (length out) (so_far_of x) input ≡ taken + taken_of (length out - written) (so_far_of y) (drop taken input)
+pub record Going (x : Session) (input out : List ℕ) (taken : ℕ) (rest : List ℕ) (y : Session) (written : ℕ) (out_current : List ℕ) : Type 0 where
+  pub takes : taken_of (length out) (so_far_of x) input ≡ taken + taken_of (length out - written) (so_far_of y) rest
+  pub left : rest ≡ drop taken input
   pub stands : so_far_of y ≡ after (so_far_of x) (take taken input)
   pub registers : registers_of y ≡ registers_after (so_far_of x) (take taken input) (registers_of x)
   pub text : Wrote out 0 (printed (so_far_of x) (take taken input)) out_current written
@@ -44,12 +44,13 @@ none_fed x input out h =
     }
 
 -- At the start.
-pub going_start : (x : Session) (input out : List ℕ) → least_room ≤ length out → Going x input out 0 x 0 out
+pub going_start : (x : Session) (input out : List ℕ) → least_room ≤ length out → Going x input out 0 input x 0 out
 unfolding after printed registers_after
 going_start x input out h =
     record {
       room = h;
       takes = rw (sub-zero (length out)) (omega arith);
+      left = refl;
       stands = refl;
       registers = refl;
       text = record { bytes = refl; end = refl };
@@ -57,9 +58,16 @@ going_start x input out h =
       fits = omega arith;
     }
 
-pub same_long : {x y : Session} {input out out_current : List ℕ} {taken written : ℕ}
-    → Going x input out taken y written out_current → length out_current ≡ length out
+pub same_long : {x y : Session} {input out rest out_current : List ℕ} {taken written : ℕ}
+    → Going x input out taken rest y written out_current → length out_current ≡ length out
 same_long g = ap length g.text.bytes ∙ simp length-sets
+
+-- What was taken is as long as the rest is shorter than the input.
+pub going_left : {x y : Session} {input out rest out_current : List ℕ} {taken written : ℕ}
+    → Going x input out taken rest y written out_current → Going x input out (length input - length rest) rest y written out_current
+going_left {input = input} {rest = rest} {taken = taken} g =
+    let same : length input - length rest ≡ taken = omega (arith, g.inside, ap length g.left ∙ length-drop taken input) in
+    rw same g
 
 room_left : (out : List ℕ) (i : ℕ) → has_room out i ≡ true → i + 1024 ≤ length out
 unfolding fits
@@ -105,25 +113,17 @@ takes_part y z h w = record {
 }
 
 -- Some bytes more.
-pub more_taken : (y z : Session) {out out_later : List ℕ} {i j : ℕ} (input : List ℕ) (taken t : ℕ) → taken < length input
-    → Takes y (take (length input - taken) (drop taken input)) out i t z j out_later → (0 < t) × (taken + t ≤ length input)
-more_taken y z input taken t h made =
-    let l = rw (take_rest input taken) at made in
-    let long = length-drop taken input in
-    (l.some (omega arith), omega (arith, l.inside))
-
-module _ {x y z : Session} {input out out_current out_later : List ℕ} {taken written t j : ℕ} where
-  pub going_more : Going x input out taken y written out_current → taken < length input → has_room out_current written ≡ true
-      → Takes y (take (length input - taken) (drop taken input)) out_current written t z j out_later
-      → Going x input out (taken + t) z j out_later
-  going_more g h room made =
+module _ {x y z : Session} {input out rest out_current out_later : List ℕ} {taken written t j : ℕ} where
+  pub going_more : Going x input out taken rest y written out_current → has_room out_current written ≡ true
+      → Takes y rest out_current written t z j out_later
+      → Going x input out (taken + t) (drop t rest) z j out_later
+  going_more g room l =
       let before = so_far_of x in
-      let rest = drop taken input in
-      let l = rw (take_rest input taken) at made in
       let left : written + 1024 ≤ length out = omega (arith, room_left out_current written room, same_long g) in
       let text = printed (so_far_of y) (take t rest) in
       let short : length text ≤ 1024 = l.short in
-      let both : take (taken + t) input ≡ take taken input ++ take t rest = take-add taken t input in
+      let both : take (taken + t) input ≡ take taken input ++ take t rest
+      = take-add taken t input ∙ ap (λ (m : List ℕ). take taken input ++ take t m) (sym g.left) in
       let state : after before (take (taken + t) input) ≡ so_far_of z
       = rw (both, cut_state before (take taken input) (take t rest), ← g.stands) (sym l.stands) in
       let texts : printed before (take (taken + t) input) ≡ printed before (take taken input) ++ text
@@ -132,19 +132,30 @@ module _ {x y z : Session} {input out out_current out_later : List ℕ} {taken w
       = rw (both, cut_registers before (take taken input) (take t rest) (registers_of x), ← g.stands, g.registers) in
       let room_later : length out - written - length text ≡ length out - j = omega (arith, l.text.end) in
       let taken_later = l.rest (length out - written) (omega arith) in
+      let long : length rest ≡ length input - taken = ap length g.left ∙ length-drop taken input in
       record {
-        takes = let more = rw (room_later, drop-drop) at taken_later in omega (arith, g.takes);
+        takes = let more = rw room_later at taken_later in omega (arith, g.takes);
+        left = ap (drop t) g.left ∙ drop-drop t taken input;
         stands = sym state;
         registers = l.registers ∙ sym registers;
         text = rw texts (then g.text l.text);
-        inside = (more_taken y z input taken t h made).1;
+        inside = omega (arith, long, l.inside, g.inside);
         fits = omega (arith, l.text.end);
         room = g.room;
       }
 
+-- Nothing is left, or some bytes are.
+pub some_left : {b : Bool} (n : ℕ) → b ≡ eqb n 0 → b ≡ false → 0 < n
+some_left zero e f = absurd (false≢true (sym f ∙ e))
+some_left (suc n) e f = omega arith
+
+none_left : (rest : List ℕ) → length rest ≡ 0 → rest ≡ []
+none_left [] h = refl
+none_left (b ∷ rest) h = absurd (omega arith)
+
 -- Without room, and at the end of the input, it stops.
-module _ {x y : Session} {input out out_current : List ℕ} {taken written : ℕ} (g : Going x input out taken y written out_current) where
-  going_here : taken_of (length out - written) (so_far_of y) (drop taken input) ≡ 0 → Feeds x input out taken y written out_current
+module _ {x y : Session} {input out rest out_current : List ℕ} {taken written : ℕ} (g : Going x input out taken rest y written out_current) where
+  going_here : taken_of (length out - written) (so_far_of y) rest ≡ 0 → Feeds x input out taken y written out_current
   going_here none = record {
     takes = rw (le-leb least_room (length out) g.room) (omega (arith, g.takes));
     stands = g.stands;
@@ -156,8 +167,8 @@ module _ {x y : Session} {input out out_current : List ℕ} {taken written : ℕ
 
   pub going_none : has_room out_current written ≡ false → Feeds x input out taken y written out_current
   going_none room =
-      going_here (none_taken (length out - written) (so_far_of y) (drop taken input) (omega (arith, no_room out_current written room, same_long g)))
+      going_here (none_taken (length out - written) (so_far_of y) rest (omega (arith, no_room out_current written room, same_long g)))
 
-  pub going_all : length input ≤ taken → Feeds x input out taken y written out_current
+  pub going_all : length rest ≡ 0 → Feeds x input out taken y written out_current
   unfolding taken_of
-  going_all h = going_here (rw (drop_of_length-le input h))
+  going_all h = going_here (rw (none_left rest h))

@@ -99,20 +99,23 @@ impl Session {
     pub fn feed(&mut self, input: &[u8], out: &mut [u8]) -> Fed
         ensures { Feeds self.old input.now out.old result.taken self.new result.written out.new }
     {
-        let mut taken = 0;
+        let mut rest = input;
         let mut written = 0;
         if out.len() < LEAST_ROOM {
-            return Fed { taken, written };
+            return Fed { taken: 0, written };
         }
-        while taken < input.len() {
+        while !rest.is_empty() {
             if !printing::has_room(&out[written..]) {
-                return Fed { taken, written };
+                break;
             }
-            let fed = self.take_lines(&input[taken..], &mut out[written..]);
-            taken += fed.taken;
+            let fed = self.take_lines(rest, &mut out[written..]);
+            rest = &rest[fed.taken..];
             written += fed.written;
         }
-        Fed { taken, written }
+        Fed {
+            taken: input.len() - rest.len(),
+            written,
+        }
     }
 
     // The end of the input: writes the texts that are left, where there is room for them, and says how many bytes they have.

@@ -1,7 +1,7 @@
 -- `progress::first_run` asks for a newline and then for a run before it.
 use mathlib.Core.Path.{sym, ◌∙◌}
 use Prim.Native.Nat.{◌+◌}
-use Rattle.text.proofs.Lists.{rest_is}
+use Rattle.std.proofs.lemmas.List.{take_rest}
 use Rattle.progress.proofs.RunLines.{first_absent, first_not, first_is}
 use Rattle.progress.proofs.first_run.Goals as goal
 
@@ -15,4 +15,4 @@ returns-in_err-run c =
 
 pub returns : goal.returns
 returns c =
-    first_is c.args.input.now _ c.in_ok-end.ensures.place c.in_ok-end.ensures.within _ _ (sym c.in_ok-run.was ∙ c.run_in.ensures) (rest_is (c.in_ok-end.end + 1) c.args.input.now)
+    first_is c.args.input.now _ c.in_ok-end.ensures.place c.in_ok-end.ensures.within _ _ (sym c.in_ok-run.was ∙ c.run_in.ensures) (take_rest c.args.input.now (c.in_ok-end.end + 1))
