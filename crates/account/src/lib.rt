@@ -73,10 +73,7 @@ impl<T> Reply<T> {
     pub fn number(&self) -> u32
         ensures { result ≡ number_of self.now.answer }
     {
-        match self.answer {
-            Ok(_) => 0,
-            Err(refusal) => u32::from(refusal),
-        }
+        refusals::number_of(&self.answer)
     }
 }
 

@@ -3,7 +3,6 @@
 
 ghost use Rattle.std.specs.Prelude.{◌≡◌, ◌≤◌, ◌<◌, length, MatchOption};
 ghost use Rattle.grammar.specs.Grammar.{opening_line, bill_line, critical_line, run_line};
-ghost use Rattle.refusals.specs.Numbers.{number_of};
 ghost use Rattle.account.specs.Replies.{reply_with_bill};
 ghost use Rattle.printing.specs.Writing.{Put};
 ghost use Rattle.lines.specs.Statement.{start, has_stopped, at_end, next_number, counted, begun, month_reply, month_end, opening_read, bill_read, critical_read, run_read, run_or_bill_read, expected_read, opened, fault};
@@ -66,13 +65,6 @@ fn first_run(input: &[u8]) -> Option<(Run, &[u8])>
     Some((run, &input[end + 1..]))
 }
 
-// The number of an answer in the table of refusals: 0 where the call is accepted.
-fn number_of<T: Copy>(answer: Result<T, Refusal>) -> u32
-    ensures { result ≡ number_of answer }
-{
-    answer.map_or_else(u32::from, |_| 0)
-}
-
 impl Text {
     // Writes it to the front of a buffer, where there is room for any text, and says how many bytes it has. A refused month's amounts are 0.
     #[tactic(auto, using(billing::proofs::Laws::bill_or_default))]
@@ -82,9 +74,9 @@ impl Text {
         match self {
             Text::Nothing => 0,
             Text::Line(number) => printing::put_line(out, number),
-            Text::Open(answer) => printing::put_open(out, number_of(answer)),
+            Text::Open(answer) => printing::put_open(out, refusals::number_of(&answer)),
             Text::Month(month, answer) => {
-                printing::put_bill(out, month, number_of(answer), answer.unwrap_or_default())
+                printing::put_bill(out, month, refusals::number_of(&answer), answer.unwrap_or_default())
             }
         }
     }

@@ -33,6 +33,16 @@ impl From<Refusal> for u32 {
     }
 }
 
+// The number of an answer: 0 where the call is accepted.
+pub fn number_of<T>(answer: &Result<T, Refusal>) -> u32
+    ensures { result ≡ number_of answer.now }
+{
+    match answer {
+        Ok(_) => 0,
+        Err(refusal) => u32::from(*refusal),
+    }
+}
+
 // What the first rows ask of an account: whether it is fresh, whether it is open, and whether it is one that no call can use. They are flags and no
 // stage: each is what one row of the table asks, and no row asks which stage it is.
 #[derive(Clone, Copy, Debug, PartialEq, Eq)]
