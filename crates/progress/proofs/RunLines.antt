@@ -8,7 +8,7 @@ use borrow.Author.Tests.{leb-true, le-leb, lt-leb, eqb-true, eqb-false, eq-eqb, 
 use lib.Dec.{eqb, leb}
 use lib.ListN.{length, get_or, take, drop, length-drop}
 use Rattle.std.specs.Prelude.{Option, Some, None, is_some, OnSome, IfNone}
-use Rattle.std.proofs.lemmas.List.{take_rest, nil_from_length}
+use Rattle.std.proofs.lemmas.List.{nil_from_length}
 use Rattle.text.specs.Text.{place_of}
 use Rattle.grammar.specs.Grammar.{run_line, bill_line}
 use Rattle.progress.specs.declared.readings.Run.{Run}

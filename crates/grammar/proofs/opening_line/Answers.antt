@@ -1,4 +1,3 @@
-use Rattle.std.proofs.Common.{◌≡◌}
 use Rattle.grammar.specs.Grammar.{opening_line}
 use Rattle.grammar.proofs.opening_line.Goals as goal
 

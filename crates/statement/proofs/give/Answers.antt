@@ -1,5 +1,5 @@
 -- `statement::give` gives a session all bytes, piece by piece: `Giving` has the steps.
-use Rattle.std.proofs.Common.{rules, arith, length, length-drop}
+use Rattle.std.proofs.Common.{◌<◌, rules, arith, length, length-drop}
 use Rattle.session.specs.Sessions.{so_far_of}
 use Rattle.std.proofs.lemmas.List.{take_rest}
 use Rattle.statement.proofs.Giving.{given_some, given_more, given_all}
