@@ -28,7 +28,8 @@ pub enum Clock {
     Back,
 }
 
-// A day of a month, and what the clocks do on it; on all others they do nothing.
+// A day of a month, and what the clocks do on it; on all others they do nothing. It is one of two things: a type of these alone would be turned into a `Clock` for each
+// day that is counted.
 #[derive(Clone, Copy, PartialEq, Eq, Debug)]
 pub struct Change {
     pub day: u32,

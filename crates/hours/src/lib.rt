@@ -213,7 +213,8 @@ pub fn critical_refused(month: u32, critical_days: u32) -> bool
     past_last_day(month, critical_days) || MOST_CRITICAL_DAYS < critical_count(critical_days)
 }
 
-// What decides the periods of a day of a month.
+// What decides the periods of a day of a month. A month and its critical days stay two numbers, here and above: a month goes alone in most signatures, and a type
+// of both would be made anew for each call.
 pub fn day_hours(month: u32, day: u32, critical_days: u32) -> DayHours
     ensures { (result.row ≡ row_start (season_of month) (day_kind_of month day)) × (result.critical ≡ is_critical critical_days day) }
 {

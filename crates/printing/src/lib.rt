@@ -59,7 +59,8 @@ fn put_text(out: &mut [u8], template: &[u8], numbers: &[u64]) -> usize
     end
 }
 
-// Writes the line of a month at the front, where there is room, and says how many bytes it has; otherwise 0.
+// Writes the line of a month at the front, where there is room, and says how many bytes it has; otherwise 0. Number and bill are those of its definition, any of
+// them: a Result of a refusal would ask more of callers.
 pub fn put_bill(out: &mut [u8], month: u32, number: u32, bill: Bill) -> usize
     ensures { Put out.old 0 (bill_text month number bill) out.new result }
 {

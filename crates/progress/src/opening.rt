@@ -12,7 +12,8 @@ use account::{Account, Reply};
 use hours::ByPeriod;
 use tariff::{Agreement, Class, PriceList, Rider, Terms};
 
-// The first month, the terms and the price list. What isn't read yet is 0, and the first of two words.
+// The first month, the terms and the price list. What isn't read yet is 0, and the first of two words. Terms and prices become an agreement once all is read: before,
+// its parts are set one by one.
 #[derive(Clone, Copy)]
 pub struct Opening {
     pub month: u32,

@@ -109,6 +109,7 @@ fn yes_of(code: u64) -> Option<bool>
 }
 
 // The number at a place counted from another one, or 0 past the record's end, as in all that is read here.
+// A list and a place in it go together through all sections, and are no slice: a section may start past the end.
 pub fn number_from(words: &[u64], start: usize, place: usize) -> u64
     ensures { result ≡ get_or words.now (start + place) 0 }
 {

@@ -18,7 +18,7 @@ const STANDARD_INPUT: i32 = 0;
 
 const NEWLINE: u8 = 10;
 
-// Where a printed line has its number: after `open=`, and after `bill=YYYY-MM answer=`.
+// Where a printed line has its number, by place, as in the definition: after `open=`, and after `bill=YYYY-MM answer=`.
 const OPENING_NUMBER: usize = 5;
 
 const MONTH_NUMBER: usize = 20;

@@ -344,6 +344,7 @@ impl Template {
     }
 }
 
+// Templates and rows go by kind and refusal and not by a sheet, of whose numbers they need none.
 #[tactic(auto, unfolding(crate::specs::Filling::table_template, crate::specs::Filling::table_first, crate::specs::Filling::month_template))]
 fn table_template(kind: Kind, refusal: Option<u64>) -> Template
     ensures text { result.text.now ≡ table_template kind refusal }
@@ -476,7 +477,8 @@ impl Sheet {
     }
 }
 
-// Writes the table for a printed line at the front, where there is room, and says how many bytes it has; otherwise 0.
+// Writes the table for a printed line at the front, where there is room, and says how many bytes it has; otherwise 0. This and the next differ in the template's
+// choice alone, and by a function that is given the choice each would be as long.
 pub fn put_table(out: &mut [u8], line: &[u8]) -> usize
     ensures { PutIn table_room out.old 0 (table_of line.now) out.new result }
 {
