@@ -76,7 +76,12 @@ impl Text {
             Text::Line(number) => printing::put_line(out, number),
             Text::Open(answer) => printing::put_open(out, refusals::number_of(&answer)),
             Text::Month(month, answer) => {
-                printing::put_bill(out, month, refusals::number_of(&answer), answer.unwrap_or_default())
+                printing::put_bill(
+                    out,
+                    month,
+                    refusals::number_of(&answer),
+                    answer.unwrap_or_default(),
+                )
             }
         }
     }
