@@ -43,7 +43,8 @@ impl TryFrom<u64> for Stage {
     }
 }
 
-// Carried Wh by period and standing money in cents; next is the month that is billed next.
+// Carried Wh by period and standing money in cents; next is the month that is billed next. The fields stand one by one, and in no agreement and balance, since the
+// definitions of the calls name them so.
 #[derive(Clone, Copy)]
 pub struct Account {
     pub stage: Stage,

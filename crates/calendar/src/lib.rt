@@ -39,7 +39,7 @@ pub struct Change {
 // The days of January to December in a common year.
 const COMMON_DAYS: [u32; 12] = [31, 28, 31, 30, 31, 30, 31, 31, 30, 31, 30, 31];
 
-// Months of the year.
+// Months of the year. They stay numbers, which are reckoned with and printed.
 const FEBRUARY: u32 = 2;
 
 const MARCH: u32 = 3;

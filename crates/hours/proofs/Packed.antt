@@ -125,14 +125,12 @@ bytes_back s (suc n) good h l =
     (four_more s (4 * n) (omega arith))
 
 -- With the entry before them, the last entries of a word are one more.
-pub word_more : (s : List ℕ) (first place word entry : ℕ) → first < place → place ≤ first + 32 → word ≡ word_from s place (first + 32 - place)
-    → entry ≡ get_or s (place - 1) 0 → entry + 4 * word ≡ word_from s (place - 1) (first + 32 - (place - 1))
+pub word_more : (s : List ℕ) (n word entry : ℕ) → n < 32 → word ≡ word_from s (suc n) (32 - suc n) → entry ≡ get_or s n 0
+    → entry + 4 * word ≡ word_from s n (32 - n)
 unfolding word_from
-word_more s first zero word entry h i e f = absurd (omega arith)
-word_more s first (suc k) word entry h i e f =
-    let same : suc k - 1 ≡ k = omega arith in
-    let more : first + 32 - k ≡ suc (first + 32 - suc k) = omega arith in
-    rw (f, e, same, more)
+word_more s n word entry h e f =
+    let more : 32 - n ≡ suc (32 - suc n) = omega arith in
+    rw (e, f, more)
 
 -- A schedule that isn't refused.
 pub accepted_schedule : (s : List ℕ) → schedule_refused s ≡ false → (length s ≡ schedule_length) × (all_entries s ≡ true)

@@ -3,15 +3,17 @@ use mathlib.Core.Path.{◌≡◌, refl, ◌∙◌}
 use mathlib.Core.Bool.{Bool, true, false}
 use mathlib.Core.List.{List, [], ◌∷◌}
 use Prim.Native.Nat.{ℕ, zero, suc, ◌+◌, ◌-◌, ◌*◌, ◌/◌, ◌%◌, ◌≤◌, ◌<◌}
-use native.Mathlib.Nat.{zero-add}
+use native.Mathlib.Nat.{add-zero, zero-add, add-suc}
 use native.Mathlib.Omega.{arith}
 use borrow.Author.Tests.{ltb-true, ltb-false}
 use lib.Dec.{ltb}
-use lib.ListN.{length, get_or, get_or-append, length-append}
+use lib.ListN.{length, get_or, get_or-append, length-append, set, take, drop}
 use lib.Seq.{get_or-append_right}
+use Rattle.std.proofs.lemmas.Bool.{and_parts}
 use Rattle.std.proofs.lemmas.Grind.{same_number_lists}
+use Rattle.std.proofs.lemmas.List.{get_or-take, get_or-drop, get_or-set_same, get_or-set_other}
 use Rattle.hours.specs.Packing.{byte_at, entry_of, unpacked}
-use Rattle.hours.specs.Schedules.{word_from, words_from, packed}
+use Rattle.hours.specs.Schedules.{is_entry, all_entries, word_from, words_from, packed}
 use Rattle.hours.proofs.Packed.{word_of_words}
 
 unpacked_length : (words : List ℕ) (n : ℕ) → length (unpacked words n) ≡ 4 * n
@@ -52,6 +54,19 @@ pub unpacked_all : (words entries : List ℕ) → length entries ≡ 384 → ((k
 unpacked_all words entries long each =
     same_number_lists entries (unpacked words 96) (long ∙ rw (unpacked_length words 96)) (λ k h. rw (unpacked_at words 96 k (omega arith)) (each k (omega arith)))
 
+-- With word w stored, those before place w + 1 are those of their entries.
+pub word_stored : (s words : List ℕ) (w word : ℕ) → w < length words → ((k : ℕ) → k < w → get_or words k 0 ≡ word_from s (32 * k) 32)
+    → word ≡ word_from s (32 * w) 32 → (k : ℕ) → k < w + 1 → get_or (set words w word) k 0 ≡ word_from s (32 * k) 32
+word_stored s words w word h before e k l = by (ltb k w) refl
+  where
+    by : (b : Bool) → ltb k w ≡ b → get_or (set words w word) k 0 ≡ word_from s (32 * k) 32
+    by true f =
+        let early : k < w = ltb-true _ _ f in
+        get_or-set_other words w k word 0 (omega arith) ∙ before k early
+    by false f =
+        let same : k ≡ w = omega (arith, ltb-false _ _ f) in
+        rw same (get_or-set_same words w word 0 h ∙ e)
+
 packed_length_is : (s : List ℕ) → length (packed s) ≡ 12
 unfolding packed words_from
 packed_length_is s = refl
@@ -63,3 +78,30 @@ packed_at s k h = rw (word_of_words s 0 12 k h, zero-add)
 pub packed_all : (s words : List ℕ) → length words ≡ 12 → ((k : ℕ) → k < 12 → get_or words k 0 ≡ word_from s (32 * k) 32) → words ≡ packed s
 packed_all s words long each =
     same_number_lists words (packed s) (rw (packed_length_is s) long) (λ k h. rw (packed_at s k (omega arith)) (each k (omega arith)))
+
+-- What is left of a schedule whose entries are good, and its front.
+drop_entries : (n : ℕ) (s : List ℕ) → all_entries s ≡ true → all_entries (drop n s) ≡ true
+unfolding all_entries
+drop_entries zero s good = good
+drop_entries (suc n) [] good = good
+drop_entries (suc n) (p ∷ s) good = drop_entries n s (and_parts (is_entry p) (all_entries s) good).1
+
+take_entries : (n : ℕ) (s : List ℕ) → all_entries s ≡ true → all_entries (take n s) ≡ true
+unfolding all_entries
+take_entries zero s good = refl
+take_entries (suc n) [] good = good
+take_entries (suc n) (p ∷ s) good =
+    let both = and_parts (is_entry p) (all_entries s) good in
+    rw (both.0, take_entries n s both.1)
+
+part_from : (s : List ℕ) (n i k : ℕ) → i + k ≤ 32 → word_from (take 32 (drop n s)) i k ≡ word_from s (n + i) k
+unfolding word_from
+part_from s n i zero h = refl
+part_from s n i (suc k) h = rw (get_or-take 32 (drop n s) i 0 (omega arith), get_or-drop n s i 0, part_from s n (suc i) k (omega arith), add-suc n i)
+
+-- The entries of word w are a part of the schedule.
+pub part_entries : (s : List ℕ) (n : ℕ) → all_entries s ≡ true → all_entries (take 32 (drop n s)) ≡ true
+part_entries s n good = take_entries 32 (drop n s) (drop_entries n s good)
+
+pub part_word : (s : List ℕ) (n : ℕ) → word_from (take 32 (drop n s)) 0 32 ≡ word_from s n 32
+part_word s n = rw add-zero at (part_from s n 0 32 (omega arith))

@@ -120,15 +120,15 @@ pub fn schedule_refused(schedule: &[u8]) -> bool
     schedule.len() != SCHEDULE_LENGTH || !all_entries(schedule)
 }
 
-// The word of the entries from a place on. From the last to the first, which so comes to stand lowest.
-fn word_from(schedule: &[u8], first: usize) -> u64
-    requires first_in_bounds { first + 32 ≤ length schedule.now }
-    requires schedule_value { all_entries schedule.now ≡ true }
-    ensures { result ≡ word_from schedule.now first 32 }
+// The word of 32 entries. From the last to the first, which so comes to stand lowest.
+fn word_of(entries: &[u8]) -> u64
+    requires word_length { length entries.now ≡ 32 }
+    requires entries { all_entries entries.now ≡ true }
+    ensures { result ≡ word_from entries.now 0 32 }
 {
     let mut word = 0;
-    for place in (first..first + 32).rev() {
-        word = u64::from(schedule[place]) + 4 * word;
+    for entry in entries.iter().rev() {
+        word = u64::from(*entry) + 4 * word;
     }
     word
 }
@@ -140,8 +140,9 @@ fn words_of(schedule: &[u8]) -> [u64; PACKED_LENGTH]
     ensures { result ≡ packed schedule.now }
 {
     let mut words = [0; PACKED_LENGTH];
+    // By place, for which parts by `as_chunks` would be asked too: after `iter_mut().zip` nothing is known of what was written.
     for (w, word) in words.iter_mut().enumerate() {
-        *word = word_from(schedule, 32 * w);
+        *word = word_of(&schedule[32 * w..32 * w + 32]);
     }
     words
 }

@@ -3,6 +3,7 @@ use Rattle.std.proofs.Common.{◌≡◌, ◌∙◌, sym, refl, ℕ, zero, suc, �
 use Rattle.std.proofs.lemmas.List.{drop-drop}
 use Rattle.std.specs.Simd.{first_chunks}
 use Rattle.records.specs.Records.{record_length, delivered_place, received_place, count_at, is_call}
+use Rattle.registers.proofs.Pairs.{chunk_at}
 use Rattle.ledger.specs.Encoding.{call_of, decode, calls_in}
 
 module _ (ws delivered received : List ℕ) where
@@ -44,15 +45,7 @@ module _ (ws : List ℕ) where
   pub left_short : (n : ℕ) → length ws / record_length ≤ n → length (drop (record_length * n) ws) < record_length
   left_short n h = omega (arith, length-drop (record_length * n) ws)
 
-chunk_at : (k n : ℕ) (ws : List ℕ) → n < k
-    → slice_index_or (first_chunks record_length k ws) n [] ≡ take record_length (drop (record_length * n) ws)
-chunk_at zero n ws h = absurd (omega arith)
-chunk_at (suc k) zero ws h = refl
-chunk_at (suc k) (suc n) ws h =
-    let e : record_length * suc n ≡ record_length + record_length * n = omega arith in
-    chunk_at k n (drop record_length ws) (omega arith) ∙ rw (e, drop-drop (record_length * n) record_length ws)
-
 pub record_at : (n : ℕ) (ws : List ℕ) (chunks : List (List ℕ)) → n < length ws / record_length
     → chunks ≡ first_chunks record_length (length ws / record_length) ws
     → slice_index_or chunks n [] ≡ take record_length (drop (record_length * n) ws)
-record_at n ws chunks h e = rw e (chunk_at (length ws / record_length) n ws h)
+record_at n ws chunks h e = rw e (chunk_at record_length (length ws / record_length) n ws h)

@@ -33,7 +33,8 @@ fn periods_in(digits: &[u8]) -> Option<[u8; QUARTERS]>
     Some(periods)
 }
 
-// The row that the first line of a text gives by its key, and the text behind that line.
+// The row that the first line of a text gives by its key, and the text behind that line. Where no newline ends the line, it is the text up to its length, as it is
+// up to a newline: so no Option is asked.
 fn row_in<'a>(text: &'a [u8], key: &[u8]) -> Option<([u8; QUARTERS], &'a [u8])>
     ensures { MatchOption result (RowRefused key.now text.now) (λ read. RowRead key.now text.now read.0 read.1.now) }
 {

@@ -35,7 +35,8 @@ pub struct Progress {
 }
 
 // What is printed for a line or at the end: the number of a line that is at fault or absent, the answer to the opening, or a month as entered with the
-// answer to its billing.
+// answer to its billing. Where a line is read, None beside these is a fault, of which there is nothing to tell but the line's number, and `stop` knows that; `Nothing` is a
+// line that prints nothing.
 #[derive(Clone, Copy)]
 enum Text {
     Nothing,

@@ -57,7 +57,7 @@ impl Readings {
         &self.received[..self.count]
     }
 
-    // Stores a run behind the others, where a month has so many readings.
+    // Stores a run behind the others, where a month has so many readings. None is a fault, as everywhere in this crate.
     pub(crate) fn add(&mut self, run: Run) -> Option<()>
         ensures added { OnSome result (Adds self.old run self.new) }
         ensures refused { IfNone result (Refuses self.old run self.new) }

@@ -44,7 +44,7 @@ pub fn number_of<T>(answer: &Result<T, Refusal>) -> u32
 }
 
 // What the first rows ask of an account: whether it is fresh, whether it is open, and whether it is one that no call can use. They are flags and no
-// stage: each is what one row of the table asks, and no row asks which stage it is.
+// stage: an account's stage stands above this crate, the definitions of the rows take what each asks, and an account of any stage can be one that no call can use.
 #[derive(Clone, Copy, Debug, PartialEq, Eq)]
 pub struct Condition {
     pub fresh: bool,
@@ -53,7 +53,7 @@ pub struct Condition {
 }
 
 // What is wrong with the registers and the critical days of a billing: whether rows 8, 9, 10 and 13 apply. They stay flags: several rows can apply at once,
-// and no value is meant only where one of them does.
+// and no value is meant only where one of them does. Row 8's is here since its definition asks it; `account` answers that row by the tally that there is none.
 #[derive(Clone, Copy, Debug, Default, PartialEq, Eq)]
 pub struct Faults {
     pub wronglength: bool,

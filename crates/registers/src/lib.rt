@@ -33,7 +33,7 @@ pub struct Tally {
 }
 
 // What the readings so far come to: sums by period, the largest sum of a pair that counts, whether a reading is above the limit, and what the
-// last one counts as, or 0.
+// last one counts as, or 0 where none is known: so the definition counts a lost reading that has none before it.
 #[derive(Clone, Copy, Default)]
 struct Count {
     sums: ByPeriod,
@@ -219,7 +219,8 @@ struct Day<'a> {
 }
 
 impl Day<'_> {
-    // The count with some pairs more of the day: those from one place of it to another, whose quarters follow each other.
+    // The count with some pairs more of the day: those from one place of it to another, whose quarters follow each other. So the entries of the schedule
+    // stand as the readings do, two by two.
     fn count_stretch(self, count: Count, from: usize, to: usize) -> Count
         requires day_counted { DayCounted self.schedule.now self.month self.critical_days self.register.now self.before from count }
         requires to_bound { to ≤ day_length self.month (self.before + 1) }
@@ -228,19 +229,18 @@ impl Day<'_> {
         ensures { DayCounted self.entry.schedule.now self.entry.month self.entry.critical_days self.entry.register.now self.entry.before to result }
     {
         let day_hours = hours::day_hours(self.month, self.before + 1, self.critical_days);
-        let row = day_hours.row;
-        let first_quarter = calendar::quarter_by(self.clock, from as u32);
+        let first = day_hours.row + calendar::quarter_by(self.clock, from as u32);
+        let (schedule, register) = (self.schedule, self.register);
+        let (entries, _) = schedule[first..first + (to - from)].as_chunks::<2>();
+        let (pairs, _) = register[self.start + from..self.start + to].as_chunks::<2>();
         let mut so_far = count;
-        for half_hour in from / 2..to / 2 {
-            let place = 2 * half_hour;
-            let quarter = first_quarter + (place - from);
-            let entry = self.schedule[row + quarter];
-            let next_entry = self.schedule[row + (quarter + 1)];
-            let pair = Pair {
-                reading: self.register[self.start + place],
-                next: self.register[self.start + (place + 1)],
-            };
-            so_far = Roomy { so_far }.add_pair(day_hours, entry, next_entry, pair);
+        for (&[entry, next_entry], &[reading, next]) in entries.iter().zip(pairs) {
+            so_far = Roomy { so_far }.add_pair(
+                day_hours,
+                entry,
+                next_entry,
+                Pair { reading, next },
+            );
         }
         so_far
     }

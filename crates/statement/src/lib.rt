@@ -18,7 +18,7 @@ const STANDARD_INPUT: i32 = 0;
 
 const NEWLINE: u8 = 10;
 
-// Where a printed line has its number, by place, as in the definition: after `open=`, and after `bill=YYYY-MM answer=`.
+// Where a printed line has its number, by place, as in the definition; by prefixes, what follows would be asked for that place again: after `open=`, and after `bill=YYYY-MM answer=`.
 const OPENING_NUMBER: usize = 5;
 
 const MONTH_NUMBER: usize = 20;
@@ -38,7 +38,8 @@ enum Failure {
     Write = 5,
 }
 
-// Where what is printed goes, and how: lines as they are, or as tables; and whether refusals are explained to the errors.
+// Where what is printed goes, and how: lines as they are, or as tables; and whether refusals are explained to the errors. These are
+// two options of the call from C, each yes or no by itself.
 #[derive(Clone, Copy)]
 struct Telling {
     output: i32,
@@ -57,7 +58,8 @@ fn end_number(end: Result<Verdict, Failure>) -> u32
     }
 }
 
-// What one read brought: so many bytes, none at the end of the input. A failure is one here too, and so not the end of the input.
+// What one read brought: so many bytes, none at the end of the input. A failure is one here too, and so not the end of the input. By a
+// `From` at the `?` of `print` no contract would say this, since none of `print` can speak of what was read.
 fn brought(got: std::io::Result<usize>) -> Result<usize, Failure>
     ensures { MatchResult got (λ bytes. result ≡ Ok bytes) (λ error. result ≡ Err Failure.Read) }
 {
@@ -137,7 +139,7 @@ impl Telling {
         write(self.output, text)
     }
 
-    // Tells a text line by line: the status after it.
+    // Tells a text line by line: the status after it. The verdict goes through by value, here and below, since the contracts say it from the one before.
     fn text(self, text: &[u8], verdict: Verdict) -> Result<Verdict, Failure>
         ensures { Tells verdict text.now result }
     {

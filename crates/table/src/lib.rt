@@ -13,7 +13,8 @@ ghost use Rattle.table.specs.Filling.{NextNumber, kind_by, refused, refusal_by, 
 // A table or an explanation has at most this many bytes.
 const TABLE_ROOM: usize = 2048;
 
-// The numbers of a month's line.
+// The numbers of a month's line. They are a list and no struct, as in the definition: a line is read whatever its kind, and its numbers have names only where it is
+// a month's.
 const NUMBERS: usize = 33;
 
 // The numbers of a table.
@@ -63,7 +64,8 @@ struct Reason {
     to_do: &'static [u8],
 }
 
-// A text with marks: `#` for a number, `~` for what is wrong and `!` for what to do. Its `#`s are counted from its first mark on.
+// A text with marks: `#` for a number, `~` for what is wrong and `!` for what to do. Its `#`s are counted from its first mark on. A template, for the reasons that
+// `printing` has for its own; the two differ in what a mark takes and in the room.
 #[derive(Clone, Copy)]
 struct Template {
     text: &'static [u8],
@@ -155,8 +157,8 @@ fn refusal_of(kind: Kind, numbers: &[u64; NUMBERS]) -> Option<u64>
     }
 }
 
-// The numbers of a table in its order: the amounts by period, their sums, energy and due. A sum that is capped is no method of std, and four calls are as plain as
-// a fold with a closure.
+// The numbers of a table in its order: the amounts by period, their sums, energy and due. `ByPeriod::total` is such a sum, but a `ByPeriod` would first have to be
+// made of these four.
 #[tactic(auto, unfolding(crate::specs::Filling::cell_at))]
 fn cell_of(numbers: &[u64; NUMBERS], k: usize) -> u64
     requires { k < 37 }
@@ -219,7 +221,7 @@ fn put_column(out: &mut [u8], number: u64, place: usize)
     }
 }
 
-// Copies bytes to the front, and says how many they are.
+// Copies bytes to the front, and says how many they are: three arms of `put` need both.
 fn put_bytes(out: &mut [u8], bytes: &[u8]) -> usize
     ensures { Wrote out.old 0 bytes.now out.new result }
 {
