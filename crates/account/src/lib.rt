@@ -43,8 +43,8 @@ impl TryFrom<u64> for Stage {
     }
 }
 
-// Carried Wh by period and standing money in cents; next is the month that is billed next. The fields stand one by one, and in no agreement and balance, since the
-// definitions of the calls name them so.
+// Carried Wh by period and standing money in cents; next is the month that is billed next. The fields stand one by one, and in no agreement and balance, since
+// the definitions of the calls name them so, and these stay word for word: they are what a reader has to believe.
 #[derive(Clone, Copy)]
 pub struct Account {
     pub stage: Stage,
@@ -91,7 +91,7 @@ fn faults_of(delivered: Tally, received: Tally, wrongdays: bool) -> Faults
     }
 }
 
-// The calls take an account by value and hand it back in the reply, as a rule of the project asks.
+// The calls take an account by value and hand it back in the reply, as document 01 asks.
 impl Account {
     // The account that a list of calls starts from. Its terms stand in full, as in the definition: a derived default of terms would name a rider and a
     // class beside it.
@@ -139,7 +139,7 @@ impl Account {
     fn cant_arise(&self) -> bool
         ensures { result ≡ cant_arise self.now }
     {
-        billing::some_over(charges::CARRIED_LIMIT, self.carried)
+        tariff::some_over(charges::CARRIED_LIMIT, &self.carried.amounts())
             || charges::STANDING_LIMIT < self.standing
             || HIGHEST_NEXT < self.next
             || (self.stage == Stage::Open && self.contents_refused())

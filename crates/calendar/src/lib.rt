@@ -20,7 +20,8 @@ pub enum DayKind {
     Weekend,
 }
 
-// What the clocks do on a day: on one in March they are put forward from 02:00 to 03:00, on one in November back from 02:00 to 01:00.
+// What the clocks do on a day: on one in March they are put forward from 02:00 to 03:00, on one in November back from 02:00 to 01:00. `Unchanged` is one of
+// three and no None, as in the definitions and in the theorem `changes_once`, which is about them.
 #[derive(Clone, Copy, PartialEq, Eq, Debug)]
 pub enum Clock {
     Unchanged,
@@ -28,8 +29,8 @@ pub enum Clock {
     Back,
 }
 
-// A day of a month, and what the clocks do on it; on all others they do nothing. It is one of two things: a type of these alone would be turned into a `Clock` for each
-// day that is counted.
+// A day of a month, and what the clocks do on it; on all others they do nothing. It is one of two things: a type of these alone would be turned into a `Clock`
+// for each day that is counted.
 #[derive(Clone, Copy, PartialEq, Eq, Debug)]
 pub struct Change {
     pub day: u32,
@@ -105,8 +106,8 @@ pub fn days_in(month: u32) -> u32
     COMMON_DAYS[(month % 12) as usize] + leap_day(month)
 }
 
-// The weekday of a month's first day: 0 is Monday, 6 Sunday, and not an enum, since the day of a change is reckoned from it. Days are counted from 1 March 1999, a Monday, so that a leap
-// day is the last day of its year; from March on, five months have 153 days.
+// The weekday of a month's first day: 0 is Monday, 6 Sunday, and not an enum, since the day of a change is reckoned from it. Days are counted from 1 March
+// 1999, a Monday, so that a leap day is the last day of its year; from March on, five months have 153 days.
 pub fn first_weekday(month: u32) -> u32
     ensures { result ≡ first_weekday month }
 {
@@ -117,7 +118,7 @@ pub fn first_weekday(month: u32) -> u32
     (days % 7) as u32
 }
 
-// The weekday of a day of a month.
+// The weekday of a day of a month. A month and a day of it stay two numbers, here and above: both may be any number, and so callers in C lend them.
 fn weekday_of(month: u32, day: u32) -> u32
     ensures { result ≡ weekday_of month day }
 {

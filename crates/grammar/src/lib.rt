@@ -22,8 +22,8 @@ pub fn after_key<'a>(line: &'a [u8], key: &[u8]) -> Option<&'a [u8]>
     line.strip_prefix(key)
 }
 
-// One of two words, as a number, since the definition of a line is a list of numbers, as the grammar is written: values of their own types would be numbered again
-// for each contract.
+// One of two words, as a number, since the definition of a line is a list of numbers, as the grammar is written: values of their own types would be numbered
+// again for each contract.
 #[tactic(auto, using(crate::proofs::Texts::text_is), unfolding(crate::specs::Grammar::choice_in))]
 fn choice_in(text: &[u8], first: &[u8], second: &[u8]) -> Option<u32>
     ensures { option_to_list result ≡ choice_in first.now second.now text.now }

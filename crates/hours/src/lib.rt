@@ -14,8 +14,8 @@ mod schedule;
 use calendar::{DayKind, Season};
 use schedule::PACKED;
 
-// The periods, dearest first. They stay numbers, since the entries of a lent schedule are bytes of any value and one that is no period is counted in none: with an
-// enum each quarter-hour would have an Option of it, which is no plainer.
+// The periods, dearest first. They stay numbers, since the entries of a lent schedule are bytes of any value and one that is no period is counted in none: with
+// an enum each quarter-hour would have an Option of it, which is no plainer.
 pub const CRITICAL: u8 = 0;
 
 pub const ON_PEAK: u8 = 1;
@@ -50,7 +50,8 @@ impl ByPeriod {
         [self.critical, self.onpeak, self.offpeak, self.discount]
     }
 
-    // The sum over the periods. One that 64 bits can't hold stays at their largest number.
+    // The sum over the periods. One that 64 bits can't hold stays at their largest number. No sum of std does, and one function for this and for the sum of the
+    // nameplates would be no shorter than the two.
     pub fn total(self) -> u64
         ensures { result ≡ min (self.critical + self.onpeak + self.offpeak + self.discount) (2 ^ 64 - 1) }
     {
@@ -61,7 +62,8 @@ impl ByPeriod {
     }
 }
 
-// What decides the periods of a day: where its row starts in a schedule, and whether it is critical.
+// What decides the periods of a day: where its row starts in a schedule, and whether it is critical. The row is a place in the one list of entries, which is
+// lent whole, and no list of its own.
 #[derive(Clone, Copy, PartialEq, Eq, Debug)]
 pub struct DayHours {
     pub row: usize,
@@ -74,8 +76,7 @@ fn byte_at(words: &[u64; PACKED_LENGTH], b: usize) -> u8
     requires { b < 96 }
     ensures { result ≡ byte_at words.now b }
 {
-    let place = (b % 8) as u32;
-    ((words[b / 8] >> (8 * place)) % 256) as u8
+    words[b / 8].to_le_bytes()[b % 8]
 }
 
 // Entry k of a byte.
@@ -214,8 +215,8 @@ pub fn critical_refused(month: u32, critical_days: u32) -> bool
     past_last_day(month, critical_days) || MOST_CRITICAL_DAYS < critical_count(critical_days)
 }
 
-// What decides the periods of a day of a month. A month and its critical days stay two numbers, here and above: a month goes alone in most signatures, and a type
-// of both would be made anew for each call.
+// What decides the periods of a day of a month. A month and its critical days stay two numbers, here and above: a month goes alone in most signatures, and a
+// type of both would be made anew for each call.
 pub fn day_hours(month: u32, day: u32, critical_days: u32) -> DayHours
     ensures { (result.row ≡ row_start (season_of month) (day_kind_of month day)) × (result.critical ≡ is_critical critical_days day) }
 {

@@ -38,19 +38,12 @@ const ACCOUNT: usize = STANDING_PLACE + 1;
 fn write_account(buffer: &mut [u64], account: Account)
     ensures { buffer.new ≡ sets buffer.old 0 (account_row account) }
 {
-    let first = [account.stage as u64];
-    let rest = [
-        u64::from(account.next),
-        account.carried.critical,
-        account.carried.onpeak,
-        account.carried.offpeak,
-        account.carried.discount,
-        account.standing,
-    ];
-    text::write_at(buffer, STAGE_PLACE, &first);
+    text::write_at(buffer, STAGE_PLACE, &[account.stage as u64]);
     records::write_terms(buffer, TERMS_PLACE, account.terms);
     records::write_prices(buffer, PRICES_PLACE, account.prices);
-    text::write_at(buffer, NEXT_PLACE, &rest);
+    text::write_at(buffer, NEXT_PLACE, &[u64::from(account.next)]);
+    text::write_at(buffer, CARRIED_PLACE, &account.carried.amounts());
+    text::write_at(buffer, STANDING_PLACE, &[account.standing]);
 }
 
 // How many calls of a list are answered, and how many rows of answers are written whole.
@@ -129,8 +122,7 @@ pub extern "C" fn kozempil_call(
     1
 }
 
-// Where the day view is in the register named: its start and length, both 0 where it is empty. They are reckoned here again, since `registers::day_view`
-// lends the part itself, which doesn't say where in its register it starts.
+// Where the day view is in the register named: its start and length, both 0 where it is empty.
 #[unsafe(no_mangle)]
 pub extern "C" fn kozempil_day_view(
     delivered: &[u32],
@@ -142,12 +134,8 @@ pub extern "C" fn kozempil_day_view(
 )
     ensures { part.new ≡ sets part.old 0 (part_numbers (view_of delivered.entry received.entry month day number)) }
 {
-    if registers::empty_view(delivered, received, month, day, number) {
-        text::write_at(part, 0, &[0, 0]);
-        return;
-    }
-    let start = calendar::readings_through(month, day - 1);
-    let count = calendar::day_length(month, day);
+    let shown = registers::part_shown(delivered, received, month, day, number);
+    let (start, count) = shown.unwrap_or((0, 0));
     text::write_at(part, 0, &[start as u64, count as u64]);
 }
 

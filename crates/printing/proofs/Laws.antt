@@ -63,8 +63,8 @@ pub line_fits : (n : ℕ) → length (line_text n) ≤ 32
 unfolding line_text most_bytes
 line_fits n = template_fits (bytes_of "line=#\n") _ (lit≤ tt)
 
--- The numbers of a bill's line, where the calendar tells its year and month.
-pub bill_line_lem : {o o1 : List ℕ} {i j y q k : ℕ} (m n : ℕ) (b : Bill) → y ≡ year_of m → q ≡ month_of_year m → k ≡ n
-    → Put o i (filled_in bill_template (y ∷ q / 10 ∷ q % 10 ∷ k ∷ amounts b)) o1 j → Put o i (bill_text m n b) o1 j
+-- The line of a bill is the template with these numbers.
+pub bill_line_lem : {ns o o1 : List ℕ} {i j : ℕ} (m n : ℕ) (b : Bill) → ns ≡ year_of m ∷ month_of_year m / 10 ∷ month_of_year m % 10 ∷ n ∷ amounts b
+    → Put o i (filled_in bill_template ns) o1 j → Put o i (bill_text m n b) o1 j
 unfolding bill_text
-bill_line_lem m n b ey eq ek w = rw (ey, eq, ek) at w
+bill_line_lem m n b e w = rw e at w

@@ -37,8 +37,8 @@ pub fn put_number(out: &mut [u8], number: u64) -> usize
 }
 
 // Writes a template at the front, with numbers in the places of its `#`s, where there is room, and says how many bytes that are; otherwise 0.
-// A template, and not `impl Display` or `write!`, since each text is proved equal to a definition that a reader ticks off against document 01; and it is put in
-// lent memory, by the rule that memory is fixed and has no heap.
+// A template, and not `write!`, which promises its bytes of an Ok alone: nothing says that there is an Ok where the text fits, and this contract does.
+// It is put in lent memory, by the rule that memory is fixed and has no heap.
 fn put_text(out: &mut [u8], template: &[u8], numbers: &[u64]) -> usize
     requires { most_bytes template.now ≤ text_room }
     ensures { Put out.old 0 (filled_in template.now numbers.now) out.new result }
@@ -59,50 +59,29 @@ fn put_text(out: &mut [u8], template: &[u8], numbers: &[u64]) -> usize
     end
 }
 
-// Writes the line of a month at the front, where there is room, and says how many bytes it has; otherwise 0. Number and bill are those of its definition, any of
-// them: a Result of a refusal would ask more of callers.
+// Writes the line of a month at the front, where there is room, and says how many bytes it has; otherwise 0. Number and bill are those of its definition, any
+// of them: a Result of a refusal would ask more of callers.
 pub fn put_bill(out: &mut [u8], month: u32, number: u32, bill: Bill) -> usize
     ensures { Put out.old 0 (bill_text month number bill) out.new result }
 {
     let year = u64::from(calendar::year(month));
     let of_year = u64::from(calendar::month_of_year(month));
-    // One number for each mark of the template, in its order: a loop over rows and periods would hide which is which.
-    let numbers = [
-        year,
-        of_year / 10,
-        of_year % 10,
-        u64::from(number),
-        bill.own.critical,
-        bill.own.onpeak,
-        bill.own.offpeak,
-        bill.own.discount,
-        bill.out.critical,
-        bill.out.onpeak,
-        bill.out.offpeak,
-        bill.out.discount,
-        bill.into.critical,
-        bill.into.onpeak,
-        bill.into.offpeak,
-        bill.into.discount,
-        bill.paid.critical,
-        bill.paid.onpeak,
-        bill.paid.offpeak,
-        bill.paid.discount,
-        bill.forfeited.critical,
-        bill.forfeited.onpeak,
-        bill.forfeited.offpeak,
-        bill.forfeited.discount,
-        bill.billed.critical,
-        bill.billed.onpeak,
-        bill.billed.offpeak,
-        bill.billed.discount,
-        bill.left.critical,
-        bill.left.onpeak,
-        bill.left.offpeak,
-        bill.left.discount,
-        bill.charges.energy,
-        bill.charges.due,
+    let head = [year, of_year / 10, of_year % 10, u64::from(number)];
+    let rows = [
+        bill.own.amounts(),
+        bill.out.amounts(),
+        bill.into.amounts(),
+        bill.paid.amounts(),
+        bill.forfeited.amounts(),
+        bill.billed.amounts(),
+        bill.left.amounts(),
     ];
+    let money = [bill.charges.energy, bill.charges.due];
+    // One number for each mark of the template, in its order.
+    let mut numbers = [0; 34];
+    text::write_at(&mut numbers, 0, &head);
+    text::write_at(&mut numbers, 4, rows.as_flattened());
+    text::write_at(&mut numbers, 32, &money);
     let line = b"bill=#-## answer=# own=#,#,#,# out=#,#,#,# in=#,#,#,# paid=#,#,#,# \
         forfeited=#,#,#,# billed=#,#,#,# left=#,#,#,# energy=# due=#\n";
     put_text(out, line, &numbers)

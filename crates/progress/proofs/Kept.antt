@@ -116,15 +116,15 @@ module _ (t : Terms) where
       ∙ ap (λ (l : List ℕ). made t.rider t.class l (eqb (cond t.assisted 1 0) 1)) (eight_back t.nameplates h)
       ∙ ap (made t.rider t.class t.nameplates) (assisted_back t.assisted)
 
-terms_back : (o : Opening) → length o.terms.nameplates ≡ 8 → opening_terms (values_of o) ≡ o.terms
+terms_back : (o : Opening) → length o.agreement.terms.nameplates ≡ 8 → opening_terms (values_of o) ≡ o.agreement.terms
 unfolding opening_terms
-terms_back o h = made_back o.terms h
+terms_back o h = made_back o.agreement.terms h
 
-prices_back : (o : Opening) → opening_prices (values_of o) ≡ o.prices
+prices_back : (o : Opening) → opening_prices (values_of o) ≡ o.agreement.prices
 unfolding opening_prices
 prices_back o = refl
 
 -- What an account answers to an opening's numbers.
-pub account_answers : (a : Account) (o : Opening) (r : PlainReply) → length o.terms.nameplates ≡ 8
-    → r ≡ opening_reply a o.terms o.prices o.month → r ≡ account_reply a (values_of o)
+pub account_answers : (a : Account) (o : Opening) (r : PlainReply) → length o.agreement.terms.nameplates ≡ 8
+    → r ≡ opening_reply a o.agreement.terms o.agreement.prices o.month → r ≡ account_reply a (values_of o)
 account_answers a o r h e = e ∙ rw (terms_back o h, prices_back o)

@@ -27,8 +27,8 @@ prices_values l =
 -- In the order of the lines.
 abbrev pub values_of : Opening → List ℕ
 values_of o =
-    o.month ∷ rider_word o.terms.rider ∷ class_word o.terms.class ∷ o.terms.count
-    ∷ (eight_at o.terms.nameplates 0 0 ++ o.terms.limit ∷ cond o.terms.assisted 1 0 ∷ prices_values o.prices)
+    o.month ∷ rider_word o.agreement.terms.rider ∷ class_word o.agreement.terms.class ∷ o.agreement.terms.count
+    ∷ (eight_at o.agreement.terms.nameplates 0 0 ++ o.agreement.terms.limit ∷ cond o.agreement.terms.assisted 1 0 ∷ prices_values o.agreement.prices)
 
 -- The opening's numbers with what is kept of a line that gives the numbers v.
 unfoldable pub values_with : List ℕ → ℕ → List ℕ → List ℕ

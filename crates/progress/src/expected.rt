@@ -40,7 +40,7 @@ impl OpeningLine {
         self as u32
     }
 
-    // What is expected after it.
+    // What is expected after it. No derive gives the variant after one; a table of them, by place, would name each as well.
     pub(crate) fn next(self) -> Expected
         ensures { number_of result ≡ line_place self + 1 }
     {

@@ -22,7 +22,8 @@ use opening::Opening;
 use readings::{Readings, Run};
 use refusals::Refusal;
 
-// What the lines so far have given.
+// What the lines so far have given. Month, critical days and opening stand beside `expected` and not in its variants: the definition's state has them always,
+// 0 where nothing is read yet, and a new bill line keeps the critical days of the month before.
 #[derive(Drop)]
 pub struct Progress {
     lines: u64,
@@ -35,8 +36,8 @@ pub struct Progress {
 }
 
 // What is printed for a line or at the end: the number of a line that is at fault or absent, the answer to the opening, or a month as entered with the
-// answer to its billing. Where a line is read, None beside these is a fault, of which there is nothing to tell but the line's number, and `stop` knows that; `Nothing` is a
-// line that prints nothing.
+// answer to its billing. Where a line is read, None beside these is a fault, of which there is nothing to tell but the line's number, and `stop` knows
+// that; `Nothing` is a line that prints nothing: as a second None in that answer it would stand for something else than the first.
 #[derive(Clone, Copy)]
 enum Text {
     Nothing,

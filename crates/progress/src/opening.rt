@@ -10,15 +10,13 @@ ghost use Rattle.progress.specs.Values.{values_of, values_with};
 use crate::expected::OpeningLine;
 use account::{Account, Reply};
 use hours::ByPeriod;
-use tariff::{Agreement, Class, PriceList, Rider, Terms};
+use tariff::{Agreement, Class, Rider};
 
-// The first month, the terms and the price list. What isn't read yet is 0, and the first of two words. Terms and prices become an agreement once all is read: before,
-// its parts are set one by one.
+// The first month, the terms and the price list. What isn't read yet is 0, and the first of two words.
 #[derive(Clone, Copy)]
 pub struct Opening {
     pub month: u32,
-    pub terms: Terms,
-    pub prices: PriceList,
+    pub agreement: Agreement,
 }
 
 // A number of a line, and 0 past the last.
@@ -36,8 +34,10 @@ impl Opening {
         let fresh = Account::fresh();
         Opening {
             month: 0,
-            terms: fresh.terms,
-            prices: fresh.prices,
+            agreement: Agreement {
+                terms: fresh.terms,
+                prices: fresh.prices,
+            },
         }
     }
 
@@ -50,36 +50,33 @@ impl Opening {
         ensures { values_of self.new ≡ values_with (values_of self.old) (line_place line) numbers.now }
     {
         let number = number_at(numbers, 0);
+        let Agreement { terms, prices } = &mut self.agreement;
         match line {
             OpeningLine::Opens => self.month = text::at_or(numbers, 0, 0),
             // A line gives numbers, as its definition does: the two words of these lines are 0 and 1, as the codes are.
-            OpeningLine::Rider => {
-                self.terms.rider = Rider::try_from(number).unwrap_or(Rider::Bridge);
-            }
-            OpeningLine::Class => {
-                self.terms.class = Class::try_from(number).unwrap_or(Class::Business);
-            }
+            OpeningLine::Rider => terms.rider = Rider::try_from(number).unwrap_or(Rider::Bridge),
+            OpeningLine::Class => terms.class = Class::try_from(number).unwrap_or(Class::Business),
             OpeningLine::Nameplates => {
-                self.terms.count = numbers.len() as u64;
-                self.terms.nameplates = std::array::from_fn(|i| number_at(numbers, i));
+                terms.count = numbers.len() as u64;
+                terms.nameplates = std::array::from_fn(|i| number_at(numbers, i));
             }
-            OpeningLine::Limit => self.terms.limit = number,
-            OpeningLine::Assisted => self.terms.assisted = number == 1,
+            OpeningLine::Limit => terms.limit = number,
+            OpeningLine::Assisted => terms.assisted = number == 1,
             OpeningLine::Prices => {
-                self.prices.energy = ByPeriod {
+                prices.energy = ByPeriod {
                     critical: number,
                     onpeak: number_at(numbers, 1),
                     offpeak: number_at(numbers, 2),
                     discount: number_at(numbers, 3),
                 };
             }
-            OpeningLine::Demand => self.prices.demand = number,
-            OpeningLine::Standby => self.prices.standby = number,
-            OpeningLine::Bypass => self.prices.bypass = number,
-            OpeningLine::Credit => self.prices.credit = number,
-            OpeningLine::Distribution => self.prices.distribution = number,
-            OpeningLine::Basic => self.prices.basic = number,
-            OpeningLine::Minimum => self.prices.minimum = number,
+            OpeningLine::Demand => prices.demand = number,
+            OpeningLine::Standby => prices.standby = number,
+            OpeningLine::Bypass => prices.bypass = number,
+            OpeningLine::Credit => prices.credit = number,
+            OpeningLine::Distribution => prices.distribution = number,
+            OpeningLine::Basic => prices.basic = number,
+            OpeningLine::Minimum => prices.minimum = number,
         }
     }
 
@@ -87,10 +84,6 @@ impl Opening {
     pub(crate) fn open(self, account: Account) -> Reply<()>
         ensures { plain_reply result ≡ account_reply account (values_of self) }
     {
-        let agreement = Agreement {
-            terms: self.terms,
-            prices: self.prices,
-        };
-        account.opening(agreement, self.month)
+        account.opening(self.agreement, self.month)
     }
 }

@@ -13,8 +13,8 @@ pub struct Run {
     pub received: u32,
 }
 
-// The readings stand at the front of two registers. Past them stands what was left there. One count serves for both: two `ArrayVec`s would each have one, and
-// contracts that say that they are equal.
+// The readings stand at the front of two registers. Past them stands what was left there. No `ArrayVec`s: the contracts of a session say what the registers
+// hold past the readings, and an `ArrayVec` says nothing of that.
 #[derive(Drop)]
 pub struct Readings {
     delivered: [u32; MOST_READINGS],

@@ -2,17 +2,18 @@
 // written from any place on.
 #![tactic(auto)]
 
-ghost use Rattle.std.specs.Prelude.{◌≡◌, ◌+◌, get_or, take, drop};
+ghost use Rattle.std.specs.Prelude.{◌≡◌, [], ◌+◌, get_or, take, drop};
 ghost use Rattle.std.proofs.lemmas.List.Edits.{sets};
 ghost use Rattle.tariff.specs.Tariff.{eight_at};
 ghost use Rattle.records.specs.Sections.{yes_code, four_at, nameplates_place};
 ghost use Rattle.records.specs.Sections.{terms_numbers, terms_at, prices_numbers, prices_at};
 ghost use Rattle.records.specs.Reading.{yes_read, terms_read, small_read, opening_read, billing_read, call_read};
 ghost use Rattle.records.specs.Reading.{delivered_said, received_said};
-ghost use Rattle.records.specs.Rows.{row_of};
+ghost use Rattle.records.specs.Rows.{row_of, lines};
 
 use account::ClosingAmounts;
 use billing::Bill;
+use charges::Charges;
 use hours::ByPeriod;
 use tariff::{Agreement, Class, MOST_NAMEPLATES, PriceList, Rider, Terms};
 
@@ -64,10 +65,18 @@ const BILLING: u64 = 2;
 
 const CLOSING: u64 = 3;
 
-// The numbers of an answer's row: its number, eleven amounts by period, the money lines, an amount by period and a sum of money.
+// The row of an answer: its number; of a bill eleven amounts by period and the money lines; of a closing an amount by period and a sum of money.
+const BY_PERIOD_PLACE: usize = 1;
+
+const LINES_PLACE: usize = BY_PERIOD_PLACE + 11 * 4;
+
 const LINES_LENGTH: usize = 10;
 
-pub const ROW: usize = 1 + 11 * 4 + LINES_LENGTH + 4 + 1;
+const FORFEITED_PLACE: usize = LINES_PLACE + LINES_LENGTH;
+
+const REFUNDED_PLACE: usize = FORFEITED_PLACE + 4;
+
+pub const ROW: usize = REFUNDED_PLACE + 1;
 
 // What the record of a call says. A billing says how many readings it takes from each register.
 #[derive(Clone, Copy)]
@@ -108,8 +117,9 @@ fn yes_of(code: u64) -> Option<bool>
     }
 }
 
-// The number at a place counted from another one, or 0 past the record's end, as in all that is read here.
-// A list and a place in it go together through all sections, and are no slice: a section may start past the end.
+// The number at a place counted from another one, or 0 past the record's end, as in all that is read here. A list and a place in it go together through all
+// sections, as in the definitions (`terms_at w place`): with a slice, each caller would make the empty one itself, and a law would be needed that what stands
+// behind a place is read alike.
 pub fn number_from(words: &[u64], start: usize, place: usize) -> u64
     ensures { result ≡ get_or words.now (start + place) 0 }
 {
@@ -123,7 +133,8 @@ fn nameplates_at(words: &[u64], place: usize) -> [u64; MOST_NAMEPLATES]
     std::array::from_fn(|i| number_from(words, place, NAMEPLATES_PLACE + i))
 }
 
-// The terms that start at a place. An unknown code of a rider or a class is read as that of the second, and one of assisted as no.
+// The terms that start at a place. It stays beside `known_terms_at`, which the callers ask, for what it promises of codes that aren't known. An unknown code of
+// a rider or a class is read as that of the second, and one of assisted as no.
 #[tactic(auto, unfolding(crate::specs::Sections::terms_at))]
 pub fn terms_at(words: &[u64], place: usize) -> Terms
     ensures { result ≡ terms_at words.now place }
@@ -256,99 +267,72 @@ pub fn readings_taken(said: u64, register: &[u32]) -> (&[u32], &[u32])
     register.split_at(said.min(register.len() as u64) as usize)
 }
 
-// The sixty numbers of an answer, one by one in their order: parts copied into a row would each need a place to start at.
-pub fn row_of(answer: Answer) -> [u64; ROW]
-    ensures { result ≡ row_of answer }
+// The money lines of a bill.
+fn lines_of(charges: Charges) -> [u64; LINES_LENGTH]
+    ensures { result ≡ lines charges [] }
 {
-    let b = answer.bill;
-    let c = b.charges;
-    let closed = answer.amounts;
     [
-        u64::from(answer.number),
-        b.forfeited.critical,
-        b.forfeited.onpeak,
-        b.forfeited.offpeak,
-        b.forfeited.discount,
-        b.delivered.critical,
-        b.delivered.onpeak,
-        b.delivered.offpeak,
-        b.delivered.discount,
-        b.exported.critical,
-        b.exported.onpeak,
-        b.exported.offpeak,
-        b.exported.discount,
-        b.own.critical,
-        b.own.onpeak,
-        b.own.offpeak,
-        b.own.discount,
-        b.credit.critical,
-        b.credit.onpeak,
-        b.credit.offpeak,
-        b.credit.discount,
-        b.need.critical,
-        b.need.onpeak,
-        b.need.offpeak,
-        b.need.discount,
-        b.out.critical,
-        b.out.onpeak,
-        b.out.offpeak,
-        b.out.discount,
-        b.into.critical,
-        b.into.onpeak,
-        b.into.offpeak,
-        b.into.discount,
-        b.billed.critical,
-        b.billed.onpeak,
-        b.billed.offpeak,
-        b.billed.discount,
-        b.left.critical,
-        b.left.onpeak,
-        b.left.offpeak,
-        b.left.discount,
-        b.paid.critical,
-        b.paid.onpeak,
-        b.paid.offpeak,
-        b.paid.discount,
-        c.energy,
-        c.demand,
-        c.standby,
-        c.bypass,
-        c.shortfall,
-        c.gross,
-        c.granted,
-        c.used,
-        c.due,
-        c.standing,
-        closed.forfeited.critical,
-        closed.forfeited.onpeak,
-        closed.forfeited.offpeak,
-        closed.forfeited.discount,
-        closed.refunded,
+        charges.energy,
+        charges.demand,
+        charges.standby,
+        charges.bypass,
+        charges.shortfall,
+        charges.gross,
+        charges.granted,
+        charges.used,
+        charges.due,
+        charges.standing,
     ]
 }
 
-// Writes terms from a place on; what doesn't fit is left out. They are written at once: parts before and after the nameplates would each need a place to
-// start at, and a sum that can't overflow for it.
+// The numbers of an answer.
+pub fn row_of(answer: Answer) -> [u64; ROW]
+    ensures { result ≡ row_of answer }
+{
+    let bill = answer.bill;
+    let by_period = [
+        bill.forfeited.amounts(),
+        bill.delivered.amounts(),
+        bill.exported.amounts(),
+        bill.own.amounts(),
+        bill.credit.amounts(),
+        bill.need.amounts(),
+        bill.out.amounts(),
+        bill.into.amounts(),
+        bill.billed.amounts(),
+        bill.left.amounts(),
+        bill.paid.amounts(),
+    ];
+    let mut row = [0; ROW];
+    row[0] = u64::from(answer.number);
+    text::write_at(&mut row, BY_PERIOD_PLACE, by_period.as_flattened());
+    text::write_at(&mut row, LINES_PLACE, &lines_of(bill.charges));
+    text::write_at(
+        &mut row,
+        FORFEITED_PLACE,
+        &answer.amounts.forfeited.amounts(),
+    );
+    row[REFUNDED_PLACE] = answer.amounts.refunded;
+    row
+}
+
+// Writes terms from a place on; what doesn't fit is left out.
 #[tactic(auto, unfolding(crate::specs::Sections::terms_numbers))]
 pub fn write_terms(buffer: &mut [u64], place: usize, terms: Terms)
     ensures { buffer.new ≡ sets buffer.old place (terms_numbers terms) }
 {
-    let [first, second, third, fourth, fifth, sixth, seventh, eighth] = terms.nameplates;
-    let numbers = [
-        terms.rider as u64,
-        terms.class as u64,
-        terms.count,
-        first,
-        second,
-        third,
-        fourth,
-        fifth,
-        sixth,
-        seventh,
-        eighth,
-        terms.limit,
-        u64::from(terms.assisted),
-    ];
+    let mut numbers = [0; TERMS_LENGTH];
+    text::write_at(
+        &mut numbers,
+        RIDER_PLACE,
+        &[terms.rider as u64, terms.class as u64, terms.count],
+    );
+    text::write_at(&mut numbers, NAMEPLATES_PLACE, &terms.nameplates);
+    text::write_at(
+        &mut numbers,
+        LIMIT_PLACE,
+        &[terms.limit, u64::from(terms.assisted)],
+    );
     text::write_at(buffer, place, &numbers);
 }
 
@@ -357,11 +341,7 @@ pub fn write_terms(buffer: &mut [u64], place: usize, terms: Terms)
 pub fn write_prices(buffer: &mut [u64], place: usize, prices: PriceList)
     ensures { buffer.new ≡ sets buffer.old place (prices_numbers prices) }
 {
-    let numbers = [
-        prices.energy.critical,
-        prices.energy.onpeak,
-        prices.energy.offpeak,
-        prices.energy.discount,
+    let others = [
         prices.demand,
         prices.standby,
         prices.bypass,
@@ -370,5 +350,8 @@ pub fn write_prices(buffer: &mut [u64], place: usize, prices: PriceList)
         prices.basic,
         prices.minimum,
     ];
+    let mut numbers = [0; PRICES_LENGTH];
+    text::write_at(&mut numbers, 0, &prices.energy.amounts());
+    text::write_at(&mut numbers, 4, &others);
     text::write_at(buffer, place, &numbers);
 }

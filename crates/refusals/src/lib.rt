@@ -43,8 +43,8 @@ pub fn number_of<T>(answer: &Result<T, Refusal>) -> u32
     }
 }
 
-// What the first rows ask of an account: whether it is fresh, whether it is open, and whether it is one that no call can use. They are flags and no
-// stage: an account's stage stands above this crate, the definitions of the rows take what each asks, and an account of any stage can be one that no call can use.
+// What the first rows ask of an account: whether it is fresh, whether it is open, and whether it is one that no call can use. They are flags and no stage: an
+// account's stage stands above this crate, the definitions of the rows take what each asks, and an account of any stage can be one that no call can use.
 #[derive(Clone, Copy, Debug, PartialEq, Eq)]
 pub struct Condition {
     pub fresh: bool,

@@ -1,6 +1,6 @@
 -- The day view over plain values: what holds where there is one, and which part it is.
-use mathlib.Core.Path.{◌≡◌}
-use mathlib.Core.Bool.{true, false, cond, ◌||◌}
+use mathlib.Core.Path.{◌≡◌, refl, ap}
+use mathlib.Core.Bool.{Bool, true, false, cond, ◌||◌}
 use mathlib.Core.List.{List}
 use Prim.Native.Nat.{ℕ, ◌+◌, ◌-◌, ◌*◌, ◌≤◌}
 use native.Mathlib.Omega.{arith}
@@ -9,10 +9,11 @@ use lib.Dec.{eqb, ltb}
 use lib.ListN.{length, take, drop}
 use denote.Ref.{Bor}
 use Rattle.calendar.specs.Calendar.{last_month, days_in, day_length, readings_through, month_length}
+use Rattle.std.proofs.Common.{Option, Some, None}
 use Rattle.std.proofs.lemmas.Bool.{or_parts}
 use Rattle.calendar.proofs.Laws.{through_more, through_mono, month_length-is}
 use Rattle.registers.specs.Registers.{length_refused}
-use Rattle.registers.specs.DayView.{empty_view, view_of, IsPart}
+use Rattle.registers.specs.DayView.{empty_view, part_shown, view_of, IsPart}
 
 pub length-right : (m : ℕ) (r : List ℕ) → length_refused m r ≡ false → length r ≡ month_length m
 unfolding length_refused
@@ -41,6 +42,28 @@ viewed xs ys m d k e =
       received_length = length-right m ys other;
       number = ltb-false _ _ number;
     }
+
+-- What the answer to where the part is says.
+module _ (delivered received : List ℕ) (m d k : ℕ) where
+  pub not_shown : None ≡ part_shown delivered received m d k → empty_view delivered received m d k ≡ true
+  unfolding part_shown
+  not_shown e = by (empty_view delivered received m d k) e
+    where
+      by : (b : Bool) → ◌≡◌ {A = Option (ℕ × ℕ)} None (cond b None (Some (readings_through m (d - 1), day_length m d))) → b ≡ true
+      by true f = refl
+      by false f = absurd (cc)
+
+  pub shown : (s n : ℕ) → Some (s, n) ≡ part_shown delivered received m d k
+      → (empty_view delivered received m d k ≡ false) × (s ≡ readings_through m (d - 1)) × (n ≡ day_length m d)
+  unfolding part_shown
+  shown s n e = by (empty_view delivered received m d k) e
+    where
+      by : (b : Bool) → ◌≡◌ {A = Option (ℕ × ℕ)} (Some (s, n)) (cond b None (Some (readings_through m (d - 1), day_length m d)))
+          → (b ≡ false) × (s ≡ readings_through m (d - 1)) × (n ≡ day_length m d)
+      by true f = absurd (cc)
+      by false f =
+          let same : ◌≡◌ {A = ℕ × ℕ} (s, n) (readings_through m (d - 1), day_length m d) = cc in
+          (refl, ap (λ p. p.0) same, ap (λ p. p.1) same)
 
 -- The day's readings end within the month.
 pub day_end : (m d : ℕ) → 1 ≤ d → d ≤ days_in m → readings_through m (d - 1) + day_length m d ≤ month_length m

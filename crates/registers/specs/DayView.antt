@@ -1,5 +1,5 @@
 -- Document 01, "Day view and statement", first paragraph. d is a day (1 is the first) and k a register number.
-use Rattle.std.specs.Prelude.{◌≡◌, Bool, cond, ◌||◌, List, ℕ, ◌+◌, ◌-◌, ◌*◌, eqb, ltb, take, drop}
+use Rattle.std.specs.Prelude.{◌≡◌, Bool, cond, Option, None, Some, ◌||◌, List, ℕ, ◌+◌, ◌-◌, ◌*◌, eqb, ltb, take, drop}
 use Rattle.std.specs.Borrow.{Bor}
 use Rattle.calendar.specs.Calendar.{last_month, days_in, day_length, readings_through}
 use Rattle.registers.specs.Registers.{length_refused}
@@ -8,6 +8,10 @@ use Rattle.registers.specs.Registers.{length_refused}
 unfoldable pub empty_view : List ℕ → List ℕ → ℕ → ℕ → ℕ → Bool
 empty_view delivered received m d k =
     ltb last_month m || (ltb d 1 || ltb (days_in m) d) || (length_refused m delivered || length_refused m received) || ltb 1 k
+
+-- Where that day's readings start in the register named, and how many they are; none where the view is empty.
+unfoldable pub part_shown : List ℕ → List ℕ → ℕ → ℕ → ℕ → Option (ℕ × ℕ)
+part_shown delivered received m d k = cond (empty_view delivered received m d k) None (Some (readings_through m (d - 1), day_length m d))
 
 -- A part of a lent register: where it starts, and how many readings it has.
 pub record Part : Type 0 where

@@ -6,7 +6,7 @@ ghost use Rattle.std.specs.Prelude.{◌≡◌, cond, ◌||◌, ◌+◌, ◌%◌,
 ghost use Rattle.calendar.specs.Calendar.{days_in, clock_of, day_length, readings_through, month_length};
 ghost use Rattle.hours.specs.Hours.{is_peak, period_on_day};
 ghost use Rattle.registers.specs.Registers.{reading_limit, first_lost, tally_of};
-ghost use Rattle.registers.specs.DayView.{empty_view, view_of, IsPart};
+ghost use Rattle.registers.specs.DayView.{part_shown, view_of, IsPart};
 ghost use Rattle.registers.specs.Counting.{HasRoom, Room, counts_after, AddedTo, Added, AddedPair, FilledPair, Counted, DayCounted, Follows};
 
 use calendar::Clock;
@@ -49,7 +49,8 @@ struct Roomy {
     ghost room: { Room 2 so_far },
 }
 
-// Two readings, one after the other.
+// Two readings, one after the other. Their periods, or entries, go beside them: where both quarters have one, it is one value, and what fills a gap takes the
+// place of a reading alone.
 #[derive(Clone, Copy)]
 struct Pair {
     reading: u32,
@@ -72,25 +73,20 @@ fn first_lost(register: &[u32]) -> bool
     register.first() == Some(&LOST)
 }
 
-// The amount where the period is the one wanted, else 0.
-fn in_period(period: u8, wanted: u8, amount: u64) -> u64
-    ensures value { result ≡ cond (eqb period wanted) amount 0 }
-    ensures upper_bound { result ≤ amount }
-{
-    if period == wanted { amount } else { 0 }
-}
-
 // The sums with an amount more in a period.
 fn plus(sums: ByPeriod, period: u8, amount: u64) -> ByPeriod
     requires { HasRoom amount sums }
     ensures { AddedTo sums period amount result }
 {
-    ByPeriod {
-        critical: sums.critical + in_period(period, hours::CRITICAL, amount),
-        onpeak: sums.onpeak + in_period(period, hours::ON_PEAK, amount),
-        offpeak: sums.offpeak + in_period(period, hours::OFF_PEAK, amount),
-        discount: sums.discount + in_period(period, hours::DISCOUNT, amount),
+    let mut more = sums;
+    match period {
+        hours::CRITICAL => more.critical += amount,
+        hours::ON_PEAK => more.onpeak += amount,
+        hours::OFF_PEAK => more.offpeak += amount,
+        hours::DISCOUNT => more.discount += amount,
+        _ => {}
     }
+    more
 }
 
 impl Pair {
@@ -187,11 +183,11 @@ impl Roomy {
     }
 
     // The count with one pair more, from its entries of the schedule. For nearly all pairs one test serves for the mark and the limit of both readings,
-    // and one addition for both. (By `Pair::sum` this test made a bill slower.)
+    // and one addition for both.
     fn add_pair(self, day: DayHours, entry: u8, next_entry: u8, pair: Pair) -> Count
         ensures { FilledPair self.so_far (period_on_day day.critical entry) (period_on_day day.critical next_entry) pair.reading pair.next result }
     {
-        if entry == next_entry && pair.reading as u64 + pair.next as u64 <= READING_LIMIT as u64 {
+        if entry == next_entry && pair.sum() <= u64::from(READING_LIMIT) {
             return self.add_same_entry(day, entry, pair);
         }
         let period = hours::period_on(day, entry);
@@ -200,8 +196,10 @@ impl Roomy {
     }
 }
 
-// A day of a month's register, lent with the schedule that says its hours: the days of the month before it, the place where its readings start, and what
-// the clocks do on it. The place is no part of the register of its own, since the facts below, and the gaps that are filled from the days before, are about the whole.
+// A day of a month's register, lent with the schedule that says its hours: the days of the month before it, the place where its readings start, and what the
+// clocks do on it. The place is no part of the register of its own, since the facts below, and the gaps that are filled from the days before, are about the
+// whole. Schedule, register, month and critical days are no struct of their own: it would be made once, in `tally_of`, and each fact would name them through
+// it.
 #[derive(Clone, Copy)]
 struct Day<'a> {
     schedule: &'a [u8; SCHEDULE_LENGTH],
@@ -314,19 +312,31 @@ pub fn tally_of(
     })
 }
 
-// Whether the day view is empty: no such month, day or register, or a register of another length than the month's. The register is named by any number, as a
-// caller in C names it, and 2 and above name none: a type of two would ask more of callers.
-#[tactic(auto, unfolding(crate::specs::DayView::empty_view, crate::specs::Registers::length_refused))]
-pub fn empty_view(delivered: &[u32], received: &[u32], month: u32, day: u32, number: u32) -> bool
-    ensures { result ≡ empty_view delivered.now received.now month day number }
+// Where the day view is in the register named, and how many readings it has; none where it is empty: for no such month, day or register, or a register of
+// another length than the month's. The register is named by any number, as a caller in C names it, and 2 and above name none: a type of two would ask more of
+// callers.
+#[tactic(auto, unfolding(crate::specs::DayView::part_shown, crate::specs::DayView::empty_view, crate::specs::Registers::length_refused))]
+pub fn part_shown(
+    delivered: &[u32],
+    received: &[u32],
+    month: u32,
+    day: u32,
+    number: u32,
+) -> Option<(usize, usize)>
+    ensures { result ≡ part_shown delivered.now received.now month day number }
 {
     let length = calendar::month_length(month);
-    calendar::LAST_MONTH < month
+    if calendar::LAST_MONTH < month
         || day < 1
         || calendar::days_in(month) < day
         || delivered.len() != length
         || received.len() != length
         || 1 < number
+    {
+        return None;
+    }
+    let start = calendar::readings_through(month, day - 1);
+    Some((start, calendar::day_length(month, day)))
 }
 
 // The readings of one day, as a part of the register named: 0 is delivered, 1 received.
@@ -339,13 +349,9 @@ pub fn day_view<'a>(
 ) -> &'a [u32]
     ensures part { IsPart (view_of delivered.entry received.entry month day number) result }
 {
-    if empty_view(delivered, received, month, day, number) {
+    let Some((start, count)) = part_shown(delivered, received, month, day, number) else {
         return &delivered[0..0];
-    }
-    let start = calendar::readings_through(month, day - 1);
-    let end = start + calendar::day_length(month, day);
-    if number == 0 {
-        return &delivered[start..end];
-    }
-    &received[start..end]
+    };
+    let register = if number == 0 { delivered } else { received };
+    &register[start..start + count]
 }

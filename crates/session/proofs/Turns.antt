@@ -6,6 +6,7 @@ use Prim.Native.Nat.{ℕ, zero, suc, ◌+◌, ◌<◌}
 use native.Mathlib.Omega.{arith}
 use lib.Dec.{eqb}
 use lib.ListN.{length, take}
+use lib.Seq.{take_all}
 use Rattle.text.specs.Text.{place_of}
 use Rattle.printing.specs.Writing.{has_room}
 use Rattle.lines.specs.Statement.{line_read}
@@ -16,7 +17,6 @@ use Rattle.lines.specs.Feeding.{SoFar, after_byte, byte_text, after, printed, Re
 use Rattle.session.specs.declared.Session.{Session}
 use Rattle.session.specs.Sessions.{so_far_of, registers_of}
 use Rattle.session.specs.Taking.{kept_of, Keeps, held, TakesBytes, TakesLine}
-use Rattle.text.proofs.Laws.{place_within}
 use Rattle.lines.proofs.Buffers.{cut_registers}
 use Rattle.lines.proofs.Streams.{cut_text, cut_state, newline_state, newline_text, other_state}
 use Rattle.session.proofs.Taking.{bytes_all, bytes_place, newline_last, front_text, front_state}
@@ -60,26 +60,14 @@ module _ (x y : Session) (input out : List ℕ) (e i : ℕ) (p : e ≡ place_of 
   none : printed (so_far_of x) (take e input) ≡ []
   none = rw p (front_text (so_far_of x) input)
 
-  -- There is no newline: all bytes are held.
-  pub all_held : e ≡ length input → TakesLine x input out i e y i out
-  all_held q =
-      let registers : registers_after (so_far_of x) (take e input) (registers_of x) ≡ registers_of x
-      = rw p (front_registers (so_far_of x) input (registers_of x) (held_same x.progress)) in
-      record {
-        takes = q ∙ sym (bytes_all input (sym p ∙ q));
-        stands = sym (rw (k.line, k.progress) state);
-        registers = sym (rw k.progress registers);
-        text = rw none (record { bytes = refl; end = omega arith });
-      }
-
   -- The newline: the line is read, and nothing is held any more.
-  pub line_ended : (later : Progress) (line out_later : List ℕ) (j : ℕ) → (e ≡ length input → ⊥)
+  pub line_ended : (later : Progress) (line out_later : List ℕ) (j : ℕ) → e < length input
       → has_room out i ≡ true → Reads y.progress y.held.items out i later out_later j → line ≡ []
       → TakesBytes (so_far_of x) (registers_of x) input out i (e + 1) (held line (state_of later)) (registers_held later) j out_later
   line_ended later line out_later j n room reads empty =
       let w = rw (k.line, k.progress) at reads in
       let whole = held (kept_of x.held.items (take e input)) (state_of x.progress) in
-      let short : place_of 10 input < length input = omega (arith, place_within 10 input) in
+      let short : place_of 10 input < length input = omega arith in
       let all : take (e + 1) input ≡ take e input ++ 10 ∷ [] = rw p (newline_last input short) in
       let text : printed (so_far_of x) (take (e + 1) input) ≡ (line_read whole.line whole.state).text
       = rw (all, printed_newline (so_far_of x) (take e input), none, state) (newline_text whole 10 refl) in
@@ -95,3 +83,16 @@ module _ (x y : Session) (input out : List ℕ) (e i : ℕ) (p : e ≡ place_of 
         registers = w.registers ∙ sym (rw after_is at registers);
         text = rw text (record { bytes = rw room at w.text.bytes; end = rw room at w.text.end });
       }
+
+-- There is no newline: all bytes are held.
+pub all_held : (x y : Session) (input out : List ℕ) (i : ℕ) → length input ≡ place_of 10 input → Keeps x input y → TakesLine x input out i (length input) y i out
+all_held x y input out i p k =
+    let all : Keeps x (take (length input) input) y = rw (take_all (length input) input (omega arith)) k in
+    let registers : registers_after (so_far_of x) (take (length input) input) (registers_of x) ≡ registers_of x
+    = rw p (front_registers (so_far_of x) input (registers_of x) (held_same x.progress)) in
+    record {
+      takes = sym (bytes_all input (sym p));
+      stands = sym (rw (all.line, all.progress) (state x y input out (length input) i p all));
+      registers = sym (rw all.progress registers);
+      text = rw (none x y input out (length input) i p all) (record { bytes = refl; end = omega arith });
+    }

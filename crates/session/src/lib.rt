@@ -60,20 +60,19 @@ impl Session {
         let _fits = self.held.try_extend_from_slice(&bytes[..more]);
     }
 
-    // Takes the bytes up to the first newline, and reads the line that it ends; or takes all bytes, where there is none. It goes by the length
-    // then, and not by an Option: the bytes up to it are kept in either case.
+    // Takes the bytes up to the first newline, and reads the line that it ends; or takes all bytes, where there is none.
     fn take_line(&mut self, input: &[u8], out: &mut [u8]) -> Fed
         requires { has_room out.old 0 ≡ true }
         ensures { TakesLine self.old input.now out.old 0 result.taken self.new result.written out.new }
     {
-        let end = text::place_of(NEWLINE, input);
-        self.keep(&input[..end]);
-        if end == input.len() {
+        let Some(end) = text::find(NEWLINE, input) else {
+            self.keep(input);
             return Fed {
-                taken: end,
+                taken: input.len(),
                 written: 0,
             };
-        }
+        };
+        self.keep(&input[..end]);
         let written = self.progress.read_line(self.held.as_slice(), out);
         self.held.clear();
         Fed {

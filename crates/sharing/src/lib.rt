@@ -1,8 +1,7 @@
 // Step 4 of document 01: credit moves to the need of cheaper periods.
 #![tactic(auto)]
 
-ghost use Rattle.std.specs.Prelude.{◌≡◌};
-ghost use Rattle.sharing.specs.Moving.{Moving, InTurn};
+ghost use Rattle.std.specs.Prelude.{◌≡◌, ◌+◌, min};
 ghost use Rattle.sharing.specs.Sharing.{shared_of};
 
 use hours::ByPeriod;
@@ -16,88 +15,44 @@ pub struct Shared {
     pub billed: ByPeriod,
 }
 
-// One move: what is moved, and what the credit and the need still have.
-#[derive(Clone, Copy)]
-struct Moved {
-    moved: u64,
-    credit: u64,
-    need: u64,
-}
-
-// The six moves, each named by the number of the credit's period and that of the need's.
-#[derive(Clone, Copy)]
-struct SixMoves {
-    m01: Moved,
-    m02: Moved,
-    m03: Moved,
-    m12: Moved,
-    m13: Moved,
-    m23: Moved,
-}
-
-// Moves the smaller of a credit and a need.
-fn move_credit(credit: u64, need: u64) -> Moved
-    ensures { Moving credit need result }
+// Moves the smaller of what a credit and a need still have, and says how much that is.
+fn move_credit(credit: &mut u64, need: &mut u64) -> u64
+    ensures moved { result ≡ min credit.old need.old }
+    ensures spent { result + credit.new ≡ credit.old }
+    ensures met { result + need.new ≡ need.old }
 {
-    let moved = credit.min(need);
-    Moved {
-        moved,
-        credit: credit - moved,
-        need: need - moved,
-    }
+    let moved = (*credit).min(*need);
+    *credit -= moved;
+    *need -= moved;
+    moved
 }
 
-// Makes the six moves, each from what the moves before it left. They stay six lines, which say in the order of step 4 what moves where; two loops over
-// the periods would skip ten of their sixteen pairs.
-fn six_moves(credit: ByPeriod, need: ByPeriod) -> SixMoves
-    ensures { InTurn credit need result }
-{
-    let m01 = move_credit(credit.critical, need.onpeak);
-    let m02 = move_credit(m01.credit, need.offpeak);
-    let m03 = move_credit(m02.credit, need.discount);
-    let m12 = move_credit(credit.onpeak, m02.need);
-    let m13 = move_credit(m12.credit, m03.need);
-    let m23 = move_credit(credit.offpeak, m13.need);
-    SixMoves {
-        m01,
-        m02,
-        m03,
-        m12,
-        m13,
-        m23,
-    }
-}
-
-// Credit shared among the need of cheaper periods.
-#[tactic(auto, using(crate::proofs::Moves::made_spent, crate::proofs::Moves::made_met, crate::proofs::Moves::made_is))]
+// Credit shared among the need of cheaper periods: in the order of step 4, each move from what the moves before it left.
 pub fn share(credit: ByPeriod, need: ByPeriod) -> Shared
     ensures { result ≡ shared_of credit need }
 {
-    let moves = six_moves(credit, need);
+    let mut unspent = credit;
+    let mut billed = need;
+    let m01 = move_credit(&mut unspent.critical, &mut billed.onpeak);
+    let m02 = move_credit(&mut unspent.critical, &mut billed.offpeak);
+    let m03 = move_credit(&mut unspent.critical, &mut billed.discount);
+    let m12 = move_credit(&mut unspent.onpeak, &mut billed.offpeak);
+    let m13 = move_credit(&mut unspent.onpeak, &mut billed.discount);
+    let m23 = move_credit(&mut unspent.offpeak, &mut billed.discount);
     Shared {
         out: ByPeriod {
-            critical: moves.m01.moved + moves.m02.moved + moves.m03.moved,
-            onpeak: moves.m12.moved + moves.m13.moved,
-            offpeak: moves.m23.moved,
+            critical: m01 + m02 + m03,
+            onpeak: m12 + m13,
+            offpeak: m23,
             discount: 0,
         },
         into: ByPeriod {
             critical: 0,
-            onpeak: moves.m01.moved,
-            offpeak: moves.m02.moved + moves.m12.moved,
-            discount: moves.m03.moved + moves.m13.moved + moves.m23.moved,
+            onpeak: m01,
+            offpeak: m02 + m12,
+            discount: m03 + m13 + m23,
         },
-        unspent: ByPeriod {
-            critical: moves.m03.credit,
-            onpeak: moves.m13.credit,
-            offpeak: moves.m23.credit,
-            discount: credit.discount,
-        },
-        billed: ByPeriod {
-            critical: need.critical,
-            onpeak: moves.m01.need,
-            offpeak: moves.m12.need,
-            discount: moves.m23.need,
-        },
+        unspent,
+        billed,
     }
 }

@@ -1,6 +1,5 @@
 -- The bytes that were read, given to a session piece by piece, and the status after what they print.
-use mathlib.Core.Path.{◌≡◌, refl, sym, ◌∙◌, subst}
-use Rattle.std.specs.Prelude.{Result}
+use mathlib.Core.Path.{◌≡◌, refl, sym, ◌∙◌}
 use mathlib.Core.Bool.{cond}
 use mathlib.Core.List.{List, [], ◌∷◌, ◌++◌}
 use Prim.Native.Nat.{ℕ, ◌≤◌, ◌<◌}
@@ -16,7 +15,6 @@ use Rattle.lines.proofs.Streams.{cut_text, cut_state, taken_some}
 use Rattle.session.specs.declared.Session.{Session}
 use Rattle.session.specs.Sessions.{so_far_of, least_room, Feeds, Finishes}
 use Rattle.statement.specs.declared.Verdict.{Verdict}
-use Rattle.statement.specs.declared.Failure.{Failure}
 use Rattle.statement.specs.Ending.{number_of}
 use Rattle.statement.specs.Status.{status_from}
 use Rattle.statement.specs.Giving.{Tells, Gives}
@@ -47,7 +45,7 @@ given_some current rest out room some e =
 -- and what it prints is told.
 pub given_more : {before : SoFar} {x y : Session} {input rest out out_later : List ℕ} {taken written first : ℕ} (verdict later : Verdict)
     → GivenSoFar before first input rest (so_far_of x) (number_of verdict) → Feeds x rest out taken y written out_later
-    → number_of later ≡ status_from (number_of verdict) (take written out_later)
+    → Tells verdict (take written out_later) later
     → GivenSoFar before first input (drop taken rest) (so_far_of y) (number_of later)
 given_more {x = x} {rest = rest} {taken = taken} verdict later given fed told =
     let current = so_far_of x in
@@ -65,12 +63,12 @@ unfolding after printed
 given_all {rest = []} verdict later given e = record { stands = given.stands; tells = sym (status_none _) ∙ given.tells }
 given_all {rest = b ∷ rest} verdict later given e = absurd (omega arith)
 
--- What the end of the input prints is told.
-pub ending_told : {x y : Session} {out out_later : List ℕ} {written : ℕ} (verdict : Verdict) (told : Result Verdict Failure) → least_room ≤ length out
-    → Finishes x out y written out_later → Tells verdict (take written out_later) told → Tells verdict (ending (so_far_of x)) told
-ending_told {x} {out = out} {out_later = out_later} {written = written} verdict told room f t =
+-- What is written at the end of the input is its ending.
+pub ending_written : {x y : Session} {out out_later : List ℕ} {written : ℕ} → least_room ≤ length out → Finishes x out y written out_later
+    → take written out_later ≡ ending (so_far_of x)
+ending_written {x} {out = out} {out_later = out_later} {written = written} room f =
     let yes = le-leb least_room (length out) room in
     let bytes : out_later ≡ sets out 0 (ending (so_far_of x)) = rw yes at f.bytes in
     let long : written ≡ length (ending (so_far_of x)) = rw yes at f.end in
     let wrote : Wrote out 0 (ending (so_far_of x)) out_later written = record { bytes = bytes; end = omega arith } in
-    subst (λ (text : List ℕ). Tells verdict text told) (front_is wrote f.fits) t
+    front_is wrote f.fits

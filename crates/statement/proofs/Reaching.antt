@@ -1,6 +1,5 @@
 -- What was read so far and what it printed, from the start on.
-use mathlib.Core.Path.{◌≡◌, refl, sym, ◌∙◌, ap}
-use Rattle.std.specs.Prelude.{Result, Ok, Err}
+use mathlib.Core.Path.{◌≡◌, sym, ◌∙◌, ap}
 use mathlib.Core.Bool.{true}
 use mathlib.Core.List.{List, [], ◌++◌, append-nil}
 use Prim.Native.Nat.{ℕ}
@@ -9,9 +8,7 @@ use Rattle.lines.specs.Feeding.{SoFar, nothing_read, after, printed, ending}
 use Rattle.lines.proofs.Streams.{streams, cut_state}
 use Rattle.statement.specs.Status.{status_of, Ends}
 use Rattle.statement.specs.declared.Verdict.{Verdict}
-use Rattle.statement.specs.declared.Failure.{Failure}
-use Rattle.statement.specs.declared.Failure.TheVariants.{Read, Write}
-use Rattle.statement.specs.Ending.{number_of, end_of}
+use Rattle.statement.specs.Ending.{number_of}
 use Rattle.statement.specs.Giving.{Tells, Gives}
 use Rattle.statement.proofs.Lines.{status_cut, status_none}
 use Rattle.statement.proofs.Texts.{printed_ends}
@@ -49,18 +46,11 @@ reached_stop {x} r stopped =
     = sym (append-nil told) ∙ ap (λ (t : List ℕ). told ++ t) (sym none) ∙ streams.whole r.bytes in
     Ends.told r.bytes (r.tells ∙ ap status_of text)
 
--- (a failure has its number)
-pub failed : (failure : Failure) → Ends (end_of (Err failure))
-failed Read = Ends.unread refl
-failed Write = Ends.unwritten refl
-
--- and at the end of the input its ending is. A write that failed is told as one.
-pub reached_end : {x : SoFar} (verdict : Verdict) (told : Result Verdict Failure) → Reached x (number_of verdict) → Tells verdict (ending x) told
-    → Ends (end_of told)
-reached_end verdict (Ok later) r t =
+-- and at the end of the input its ending is.
+pub reached_end : {x : SoFar} (verdict later : Verdict) → Reached x (number_of verdict) → Tells verdict (ending x) later → Ends (number_of later)
+reached_end verdict later r t =
     let bytes = r.bytes in
     Ends.told bytes
     (t ∙ rw (r.tells, r.stands)
     (sym (status_cut 0 (printed nothing_read bytes) (ending (after nothing_read bytes)) (printed_ends nothing_read bytes))
     ∙ ap status_of (streams.whole bytes)))
-reached_end verdict (Err failure) r t = failed failure

@@ -2,23 +2,23 @@
 // command line names, messages and the exit status are left to a program in C above it.
 #![tactic(auto)]
 
-ghost use Rattle.std.specs.Prelude.{◌≡◌, true, ◌≤◌, length, get_or, Ok, Err, IfOk, MatchResult};
+ghost use Rattle.std.specs.Prelude.{◌≡◌, true, ◌≤◌, length, Ok, Err, OnOk, MatchResult};
 ghost use Rattle.lines.specs.Feeding.{ending};
 ghost use Rattle.session.specs.Sessions.{so_far_of};
 ghost use Rattle.statement.specs.Ending.{number_of, end_of};
 ghost use Rattle.statement.specs.Giving.{Tells, Gives};
-ghost use Rattle.statement.specs.Status.{number_place, status_after, is_end, Ends};
+ghost use Rattle.statement.specs.Status.{status_after, is_end, Ends};
 
 use session::Session;
 use std::io::Read;
 use std::rt::Stdin;
-use text::at_or;
 
 const STANDARD_INPUT: i32 = 0;
 
 const NEWLINE: u8 = 10;
 
-// Where a printed line has its number, by place, as in the definition; by prefixes, what follows would be asked for that place again: after `open=`, and after `bill=YYYY-MM answer=`.
+// Where a printed line has its number, by place, as in the definition: after `open=`, and after `bill=YYYY-MM answer=`. Not by prefixes: behind
+// `bill=` a place would be needed all the same.
 const OPENING_NUMBER: usize = 5;
 
 const MONTH_NUMBER: usize = 20;
@@ -39,13 +39,14 @@ enum Failure {
 }
 
 // Where what is printed goes, and how: lines as they are, or as tables; and whether refusals are explained to the errors. These are
-// two options of the call from C, each yes or no by itself.
-#[derive(Clone, Copy)]
+// two options of the call from C, each yes or no by itself. Beside these, the verdict on what was told so far.
+#[derive(Drop)]
 struct Telling {
     output: i32,
     errors: i32,
     table: bool,
     explain: bool,
+    verdict: Verdict,
 }
 
 // The number of an end, for C.
@@ -89,26 +90,18 @@ fn write_put<P: Fn(&mut [u8], &[u8]) -> usize>(
     write(descriptor, &out[..end])
 }
 
-// The first digit of the number of an opening or a month.
-fn first_digit(line: &[u8]) -> u8
-    ensures { result ≡ get_or line.now (number_place line.now) 0 }
-{
-    if at_or(line, 0, 0) == b'o' {
-        at_or(line, OPENING_NUMBER, 0)
-    } else {
-        at_or(line, MONTH_NUMBER, 0)
-    }
-}
-
 impl Verdict {
     // The status after one printed line more.
     #[tactic(auto, unfolding(crate::specs::Status::status_after))]
     fn after(self, line: &[u8]) -> Verdict
         ensures { number_of result ≡ status_after (number_of self) line.now }
     {
-        if at_or(line, 0, 0) == b'l' {
-            Verdict::StoppedAtLine
-        } else if self == Verdict::Accepted && first_digit(line) != b'0' {
+        let place = match line.first() {
+            Some(b'l') => return Verdict::StoppedAtLine,
+            Some(b'o') => OPENING_NUMBER,
+            _ => MONTH_NUMBER,
+        };
+        if self == Verdict::Accepted && line.get(place) != Some(&b'0') {
             Verdict::Refused
         } else {
             self
@@ -119,7 +112,7 @@ impl Verdict {
 impl Telling {
     // Writes what a line, with its newline, has of its own: its table, or an explanation behind it. With explanations a line is not left to
     // the text.
-    fn line(self, line: &[u8]) -> Result<(), Failure> {
+    fn line(&self, line: &[u8]) -> Result<(), Failure> {
         if self.table {
             write_put(self.output, table::put_table, line)?;
         } else if self.explain {
@@ -132,24 +125,22 @@ impl Telling {
     }
 
     // Writes a text whole, where its lines were not written each by itself.
-    fn whole(self, text: &[u8]) -> Result<(), Failure> {
+    fn whole(&self, text: &[u8]) -> Result<(), Failure> {
         if self.table || self.explain {
             return Ok(());
         }
         write(self.output, text)
     }
 
-    // Tells a text line by line: the status after it. The verdict goes through by value, here and below, since the contracts say it from the one before.
-    fn text(self, text: &[u8], verdict: Verdict) -> Result<Verdict, Failure>
-        ensures { Tells verdict text.now result }
+    // Tells a text line by line, and brings the verdict to the one after it.
+    fn text(&mut self, text: &[u8]) -> Result<(), Failure>
+        ensures { OnOk result (Tells self.old.verdict text.now self.new.verdict) }
     {
-        let mut verdict = verdict;
         for line in text.split_inclusive(|b| *b == NEWLINE) {
-            verdict = verdict.after(line);
+            self.verdict = self.verdict.after(line);
             self.line(line)?;
         }
-        self.whole(text)?;
-        Ok(verdict)
+        self.whole(text)
     }
 }
 
@@ -158,44 +149,37 @@ fn give(
     session: &mut Session,
     input: &[u8],
     out: &mut [u8],
-    telling: Telling,
-    verdict: Verdict,
-) -> Result<Verdict, Failure>
+    telling: &mut Telling,
+) -> Result<(), Failure>
     requires { 2048 ≤ length out.old }
-    ensures { IfOk result (λ later. Gives (so_far_of session.old) verdict input.now (so_far_of session.new) later) }
+    ensures { OnOk result (Gives (so_far_of session.old) telling.old.verdict input.now (so_far_of session.new) telling.new.verdict) }
 {
-    let mut verdict = verdict;
     let mut rest = input;
     while !rest.is_empty() {
         let fed = session.feed(rest, out);
-        verdict = telling.text(&out[..fed.written], verdict)?;
+        telling.text(&out[..fed.written])?;
         rest = &rest[fed.taken..];
     }
-    Ok(verdict)
+    Ok(())
 }
 
 // Tells what the end of the input prints.
-fn finish(
-    session: &mut Session,
-    out: &mut [u8],
-    telling: Telling,
-    verdict: Verdict,
-) -> Result<Verdict, Failure>
+fn finish(session: &mut Session, out: &mut [u8], telling: &mut Telling) -> Result<(), Failure>
     requires room { 2048 ≤ length out.old }
-    ensures { Tells verdict (ending (so_far_of session.old)) result }
+    ensures { OnOk result (Tells telling.old.verdict (ending (so_far_of session.old)) telling.new.verdict) }
 {
     let written = session.finish(out);
-    telling.text(&out[..written], verdict)
+    telling.text(&out[..written])
 }
 
 // Reads standard input to its end, and tells what is printed for it, as soon as it is known.
-fn print(mut stdin: Stdin, telling: Telling) -> Result<Verdict, Failure>
+fn print(mut stdin: Stdin, mut telling: Telling) -> Result<Verdict, Failure>
+    requires { telling.verdict ≡ Verdict.Accepted }
     ensures { Ends (end_of result) }
 {
     let mut buffer = io::large_buffer();
     let mut out = io::large_buffer();
     let mut session = Session::start();
-    let mut verdict = Verdict::Accepted;
     // A loop that is proved has to end, and nothing says that the input does: it has a number of turns that no run uses up.
     for _ in 0..u64::MAX {
         // An input that can't be read on isn't at its end, so what is incomplete stays so.
@@ -203,18 +187,20 @@ fn print(mut stdin: Stdin, telling: Telling) -> Result<Verdict, Failure>
         if count == 0 {
             break;
         }
-        verdict = give(&mut session, &buffer[..count], &mut out, telling, verdict)?;
+        give(&mut session, &buffer[..count], &mut out, &mut telling)?;
         // After a fault there is no point in reading on.
         if session.is_stopped() {
-            return Ok(verdict);
+            return Ok(telling.verdict);
         }
     }
-    finish(&mut session, &mut out, telling, verdict)
+    finish(&mut session, &mut out, &mut telling)?;
+    Ok(telling.verdict)
 }
 
-// Reads the descriptor `input` to its end, writes to `output` what `statement` prints for it, as soon as it is known, and says how that ended. A
-// read or a write that fails is the last call of C, so that errno has its reason. The kit's library reads standard input alone, by a handle that takes no place in
-// the call from C: of any other descriptor it is said that a read failed, without a call of C, and a program puts the file that it has opened in the place of standard input.
+// Reads the descriptor `input` to its end, writes to `output` what `statement` prints for it, as soon as it is known, and says how that ended. A read or a
+// write that fails is the last call of C, so that errno has its reason. The kit's library reads standard input alone, by a handle that takes no place in the
+// call from C: of any other descriptor it is said that a read failed, without a call of C, and a program puts the file that it has opened in the place of
+// standard input.
 #[unsafe(no_mangle)]
 pub extern "C" fn statement_print(
     stdin: Stdin,
@@ -235,6 +221,7 @@ pub extern "C" fn statement_print(
         errors,
         table,
         explain,
+        verdict: Verdict::Accepted,
     };
     end_number(print(stdin, telling))
 }

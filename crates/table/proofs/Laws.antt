@@ -48,10 +48,10 @@ width_most false = lit≤ tt
 
 pub table_short : (l : List ℕ) → length (table_of l) ≤ 2048
 unfolding width_of
-table_short l = rw (← table_is l) (text_short _ _ _ _ _ (width_most (any_wide (shown_numbers (numbers_of l)))) (table_most _ _))
+table_short l = rw (← table_is l) (text_short _ _ _ _ _ (width_most (any_wide (shown_numbers (numbers_of l)))) (table_most _))
 
 pub explanation_short : (l : List ℕ) → length (explanation_of l) ≤ 2048
-explanation_short l = rw (← (explanation_is l 13)) (text_short _ 13 _ _ _ (lit≤ tt) (explanation_most _ _))
+explanation_short l = rw (← (explanation_is l 13)) (text_short _ 13 _ _ _ (lit≤ tt) (explanation_most _))
 
 -- What was put from the front of a buffer on ends within it.
 pub put_within : {before text after : List ℕ} {j : ℕ} → PutIn table_room before 0 text after j → length text ≤ table_room → j ≤ length before

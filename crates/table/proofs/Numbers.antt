@@ -1,94 +1,94 @@
 -- The numbers of a line, digit after digit and number after number.
 use mathlib.Core.Path.{◌≡◌, refl, sym, ◌∙◌, ap}
-use mathlib.Core.Bool.{Bool, true, false, cond}
-use mathlib.Core.List.{List, [], ◌∷◌, ◌++◌, append_assoc, append-nil}
-use Prim.Native.Nat.{ℕ, zero, suc, ◌+◌, ◌-◌, ◌≤◌, ◌<◌}
-use native.Mathlib.Numerals.{add-one}
+use mathlib.Core.Bool.{Bool, true, false, cond, not}
+use mathlib.Core.List.{List, [], ◌∷◌, ◌++◌, map}
+use Prim.Native.Nat.{ℕ, zero, suc, ◌+◌, ◌≤◌}
 use native.Mathlib.Omega.{arith}
-use lib.Dec.{lit≤}
-use lib.ListN.{length, get_or, take, drop, set, length-set, drop_of_length-le}
-use lib.Seq.{drop-cons, take_all, take-suc-set}
-use Rattle.std.specs.Prelude.{Option, None, Some, unwrap_or}
+use borrow.Author.Tests.{ne_eqb}
+use lib.Dec.{eqb, lit≤}
+use lib.ListN.{length, get_or, take, set}
+use Rattle.std.proofs.lemmas.List.{length-map, map-append}
+use Rattle.std.specs.List.{fold, filter, enumerate_from, slice_split, onto_first}
 use Rattle.numerals.specs.Numerals.{is_digit}
 use Rattle.table.specs.Numbers.{with_digit, numbers_after, first_of, numbers_of}
-use Rattle.table.specs.Filling.{NextNumber}
+use Rattle.table.specs.Filling.{value_of}
 
 -- A number that digits are read of fits 64 bits.
 digit_held : (v b : ℕ) → with_digit v b ≤ 18446744073709551615
 unfolding with_digit
 digit_held v b = omega arith
 
--- What is left of a line, in a number of which digits are read or in none.
-abbrev pub numbers_by : Option ℕ → List ℕ → List ℕ
-numbers_by None l = numbers_after false 0 l
-numbers_by (Some v) l = numbers_after true v l
+-- A line is cut at each byte that is no digit, and a part is a run of digits unless it is empty.
+abbrev pub cuts : ℕ → Bool
+cuts b = not (is_digit b)
 
--- The number that is being read, if any, and what is left of the line.
-pub record Reading (value : Option ℕ) (line : List ℕ) (p : ℕ) : Type 0 where
-  pub same : numbers_after false 0 line ≡ numbers_by value (drop p line)
+abbrev pub is_run : List ℕ → Bool
+is_run part = not (eqb (length part) 0)
 
--- At first no digit is read.
-pub read_none : (line : List ℕ) → Reading None line 0
-read_none line = record { same = refl }
+-- The values of the runs among some parts,
+abbrev pub values : List (List ℕ) → List ℕ
+values parts = map value_of (filter is_run parts)
 
-module _ (line : List ℕ) (p : ℕ) (h : p < length line) where
-  -- The bytes from place p on.
-  ahead : drop p line ≡ get_or line p 0 ∷ drop (p + 1) line
-  ahead = rw add-one (drop-cons line p 0 h)
+-- and where the first part goes on with a run whose digits so far have value v.
+abbrev values_on : ℕ → List (List ℕ) → List ℕ
+values_on v [] = v ∷ []
+values_on v (part ∷ parts) = fold with_digit v part ∷ values parts
 
-  -- A digit is read,
-  pub read_digit : {w : ℕ} (value : Option ℕ) → Reading value line p → is_digit (get_or line p 0) ≡ true
-      → w ≡ with_digit (unwrap_or value 0) (get_or line p 0)
-      → Reading (Some w) line (p + 1)
-  unfolding numbers_after
-  read_digit None g d e = record { same = g.same ∙ rw (ahead, d, e) }
-  read_digit (Some v) g d e = record { same = g.same ∙ rw (ahead, d, e) }
+-- The first part has a digit more.
+digit_on : (b v : ℕ) (parts : List (List ℕ)) → values_on (with_digit v b) parts ≡ values_on v (onto_first b parts)
+digit_on b v [] = refl
+digit_on b v (part ∷ parts) = refl
 
-  -- or another byte, before the number
-  pub read_other : Reading None line p → is_digit (get_or line p 0) ≡ false → Reading None line (p + 1)
-  unfolding numbers_after
-  read_other g d = record { same = g.same ∙ rw (ahead, d) }
+digit_first : (b : ℕ) (parts : List (List ℕ)) → values_on (with_digit 0 b) parts ≡ values (onto_first b parts)
+digit_first b [] = refl
+digit_first b (part ∷ parts) = rw (ne_eqb (suc (length part)) 0 (λ e. omega arith))
 
-  -- or after it.
-  pub read_end : {v : ℕ} → Reading (Some v) line p → is_digit (get_or line p 0) ≡ false → NextNumber line v (drop (p + 1) line)
-  unfolding numbers_after first_of
-  read_end g d = record { found = λ k. ap (first_of (suc k)) g.same ∙ rw (ahead, d) }
+-- The numbers of a line are the values of its runs, before a run and inside one.
+read_both : (l : List ℕ)
+    → (numbers_after false 0 l ≡ values (slice_split cuts l)) × ((v : ℕ) → numbers_after true v l ≡ values_on v (slice_split cuts l))
+unfolding numbers_after
+read_both [] = (refl, λ v. refl)
+read_both (b ∷ l) = by (is_digit b) (read_both l).0 (read_both l).1
+  where
+    by : (d : Bool) → numbers_after false 0 l ≡ values (slice_split cuts l)
+        → ((v : ℕ) → numbers_after true v l ≡ values_on v (slice_split cuts l))
+        → (cond d (numbers_after true (with_digit 0 b) l) (numbers_after false 0 l)
+        ≡ values (cond (not d) ([] ∷ slice_split cuts l) (onto_first b (slice_split cuts l))))
+        × ((v : ℕ) → cond d (numbers_after true (with_digit v b) l) (v ∷ numbers_after false 0 l)
+        ≡ values_on v (cond (not d) ([] ∷ slice_split cuts l) (onto_first b (slice_split cuts l))))
+    by true e f = (f (with_digit 0 b) ∙ digit_first b (slice_split cuts l), λ v. f (with_digit v b) ∙ digit_on b v (slice_split cuts l))
+    by false e f = (e, λ v. ap (λ (ns : List ℕ). v ∷ ns) e)
 
--- No byte is left.
-pub read_all : {p : ℕ} (line rest : List ℕ) (value : Option ℕ) → Reading value line p → length line ≤ p → length rest ≡ 0
-    → NextNumber line (unwrap_or value 0) rest
-unfolding numbers_after first_of
-read_all line [] None g h e = record { found = λ k. ap (first_of (suc k)) g.same ∙ rw (drop_of_length-le line h) }
-read_all line [] (Some v) g h e = record { found = λ k. ap (first_of (suc k)) g.same ∙ rw (drop_of_length-le line h) }
-read_all line (x ∷ rest) value g h e = absurd (omega arith)
-
--- The first numbers are collected, and the others are still to be read.
-pub record Collecting (line numbers rest : List ℕ) (k : ℕ) : Type 0 where
-  pub long : length numbers ≡ 33
-  pub same : take k numbers ++ first_of (33 - k) (numbers_after false 0 rest) ≡ numbers_of line
-
-pub collect_none : (line numbers : List ℕ) → length numbers ≡ 33 → Collecting line numbers line 0
-unfolding numbers_of
-collect_none line numbers e = record { long = e; same = refl }
-
-pub collect_next : {line numbers rest after : List ℕ} {k v : ℕ} → Collecting line numbers rest k → k < 33 → NextNumber rest v after
-    → Collecting line (set numbers k v) after (k + 1)
-collect_next {line} {numbers} {rest} {after} {k} {v} g h n =
-    let size : 33 - k ≡ suc (33 - (k + 1)) = omega arith in
-    let next = n.found (33 - (k + 1)) in
-    let l = g.long in
-    record {
-      long = length-set numbers k v ∙ g.long;
-      same =
-          rw (add-one k, take-suc-set numbers k v (omega arith), append_assoc, ← (add-one k))
-          (ap (λ (ns : List ℕ). take k numbers ++ ns) (sym next) ∙ rw (← size) g.same);
-    }
-
-pub collect_all : {line numbers rest : List ℕ} {k : ℕ} → Collecting line numbers rest k → k ≡ 33 → numbers ≡ numbers_of line
+-- One number more is stored, behind the others.
+first_next : (k : ℕ) (ns : List ℕ) (n : ℕ) → set (first_of k ns) (length ns) n ≡ first_of k (ns ++ n ∷ [])
 unfolding first_of
-collect_all {line} {numbers} {rest} {k} g e =
-    let l = g.long in
-    sym (append-nil numbers) ∙ rw (e, take_all 33 numbers (omega arith)) at g.same
+first_next zero ns n = refl
+first_next (suc k) [] n = refl
+first_next (suc k) (m ∷ ns) n = ap (λ (ms : List ℕ). m ∷ ms) (first_next k ns n)
+
+pub stored_next : {stored : List ℕ} {place : ℕ} (found : List (ℕ × ℕ)) (n : ℕ) → place ≡ length found
+    → stored ≡ first_of 33 (map (λ p. p.1) found)
+    → set stored place n ≡ first_of 33 (map (λ p. p.1) (found ++ (place, n) ∷ []))
+stored_next found n e s =
+    rw (e, s, map-append (λ (p : ℕ × ℕ). p.1) found, ← length-map found (λ (p : ℕ × ℕ). p.1)) (first_next 33 (map (λ p. p.1) found) n)
+
+-- Those behind the first k do not count, and all that count are stored.
+first_take : (k : ℕ) (ns : List ℕ) → first_of k (take k ns) ≡ first_of k ns
+unfolding first_of
+first_take zero ns = refl
+first_take (suc k) [] = refl
+first_take (suc k) (n ∷ ns) = ap (λ (ms : List ℕ). n ∷ ms) (first_take k ns)
+
+without_places : (k : ℕ) (ns : List ℕ) → map (λ p. p.1) (enumerate_from k ns) ≡ ns
+without_places k [] = refl
+without_places k (n ∷ ns) = ap (λ (ms : List ℕ). n ∷ ms) (without_places (k + 1) ns)
+
+pub stored_all : {stored : List ℕ} {found : List (ℕ × ℕ)} (line : List ℕ) → stored ≡ first_of 33 (map (λ p. p.1) found)
+    → found ≡ enumerate_from 0 (take 33 (values (slice_split cuts line)))
+    → stored ≡ numbers_of line
+unfolding numbers_of
+stored_all line s e =
+    s ∙ rw (e, without_places) (first_take 33 (values (slice_split cuts line)) ∙ ap (first_of 33) (sym (read_both line).0))
 
 -- No number of a line is larger than 64 bits hold.
 abbrev pub Held : List ℕ → Type 0

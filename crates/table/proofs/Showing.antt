@@ -6,19 +6,17 @@ use Prim.Native.Nat.{ℕ, zero, suc, ◌-◌, ◌/◌, ◌%◌, ◌≤◌, ◌<�
 use native.Mathlib.Omega.{arith}
 use lib.Dec.{eqb, ltb, lit≤}
 use lib.ListN.{get_or, take, drop}
-use Rattle.std.specs.Prelude.{Option, unwrap_or}
 use Rattle.text.specs.Text.{bytes_of}
-use Rattle.printing.specs.Text.{digit_byte, decimal}
+use Rattle.printing.specs.Text.{digit_byte}
 use Rattle.printing.specs.Writing.{PutIn}
 use Rattle.table.specs.Numbers.{opening, month, stop, numbers_of, kind_of, refusal_of}
-use Rattle.table.specs.Reasons.{wrong_at, row_of, explained_at}
+use Rattle.table.specs.Reasons.{stop_row, wrong_at, row_of, explained_at}
 use Rattle.table.specs.Table.{joined, month_parts, energy, due, grouped, right_in, shown_numbers, any_wide, width_of, month_table, table_for, table_of, table_room}
 use Rattle.table.specs.Explaining.{explanation_for, explanation_of}
 use Rattle.table.specs.declared.Kind.{Kind}
-use Rattle.table.specs.declared.Kind.TheVariants.{Opening, Month, Stop, Other}
-use Rattle.table.specs.Filling.{kind_by, refused, refusal_by, row_by, to_do_at, cell_at, column, plain_value, shown_of, marked_by, filled_by, month_template, table_template, table_first, explanation_template}
+use Rattle.table.specs.Filling.{kind_by, row_by, to_do_at, cell_at, column, plain_value, shown_of, marked_by, filled_by, month_template, table_template, table_first, explanation_template}
 use Rattle.table.proofs.Numbers.{Held, numbers_held}
-use Rattle.table.proofs.Telling.{refusal_same, number_same, row_same}
+use Rattle.table.proofs.Telling.{by_kind}
 use Rattle.table.proofs.Cells.{up_to}
 use Rattle.table.proofs.Fitting.{Stands, blanks, cells_stand}
 
@@ -62,9 +60,11 @@ same_cents ns = refl
 same_shape : (ns : List ℕ) {b c : List ℕ} {x y z u : List (List ℕ)} → b ≡ c → x ≡ y → z ≡ u → shaped ns b x z ≡ shaped ns c y u
 same_shape ns p q r = rw (p, q, r)
 
--- What is wrong and what to do, with what stands between them.
-reason_is : (what then rest : List ℕ) → (what ++ bytes_of "; " ++ then) ++ rest ≡ what ++ (bytes_of "; " ++ (then ++ rest))
-reason_is what then rest = append_assoc (what ++ bytes_of "; ") then rest ∙ append_assoc what (bytes_of "; ") (then ++ rest)
+-- What is wrong and what to do, with what stands between them and after them.
+reason_is : (r : ℕ) (rest : List ℕ) → explained_at r ++ rest ≡ wrong_at r ++ (bytes_of "; " ++ (to_do_at r ++ rest))
+unfolding explained_at to_do_at
+reason_is r rest =
+    append_assoc (wrong_at r ++ bytes_of "; ") (to_do_at r) rest ∙ append_assoc (wrong_at r) (bytes_of "; ") (to_do_at r ++ rest)
 
 -- The template of a table, filled in for columns of w bytes.
 abbrev tabled : List ℕ → List ℕ → List ℕ → ℕ → List ℕ
@@ -87,101 +87,91 @@ module _ (ns what then : List ℕ) where
       by true = month_wide
       by false = month_narrow
 
--- The kind of a line by the tests for its first byte.
-abbrev kind_for : Bool → Bool → Bool → Kind
-kind_for s o m = cond s Stop (cond o Opening (cond m Month Other))
+-- A template filled in for a line with numbers ns, whose first byte is b, is what is shown of it: a table,
+module _ (ns : List ℕ) where
+  abbrev row : ℕ → ℕ
+  row b = row_by (kind_by b ns)
 
--- What is shown, by these tests and that for a refusal.
-module _ (ns what then : List ℕ) (n : ℕ) where
-  table_by : Held ns → (s o m z : Bool) → eqb n 0 ≡ z
-      → filled_by (marked_by ns (width_of ns)) what then (table_first (kind_for s o m) (refused n)) (table_template (kind_for s o m) (refused n))
-      ≡ cond s (joined (bytes_of "stopped at line " ∷ decimal (get_or ns 0 0) ∷ bytes_of "\n\n" ∷ []))
-      (cond o
-      (cond z (bytes_of "account opened\n\n")
-      (joined (bytes_of "opening refused, " ∷ decimal (get_or ns 0 0) ∷ bytes_of ": " ∷ what ∷ bytes_of "\n\n" ∷ [])))
-      (cond m
-      (cond z (month_table ns (width_of ns))
-      (joined
-      (month_parts ns
-      ++ (bytes_of "  refused, " ∷ decimal (get_or ns 2 0) ∷ bytes_of ": " ∷ what ∷ bytes_of "\n\n" ∷ []))))
-      []))
-  unfolding table_first table_template filled_by marked_by plain_value
-  table_by f true o m z e = refl
-  table_by f false true m true e = rw e
-  table_by f false true m false e = rw e
-  table_by f false false true true e = rw e (sym (month_is ns what then f))
-  table_by f false false true false e = rw e
-  table_by f false false false z e = refl
+  abbrev Tabled : ℕ → Type 0
+  Tabled b =
+      filled_by (marked_by ns (width_of ns)) (wrong_at (row b)) (to_do_at (row b)) (table_first (kind_by b ns)) (table_template (kind_by b ns))
+      ≡ table_for b ns (refusal_of b ns)
 
-  bill_explained : (w : ℕ)
-      → filled_by (marked_by ns w) what then 0 (bytes_of "bill=#-## answer=#: ~; !\n")
-      ≡ joined
-      (bytes_of "bill=" ∷ month_parts ns
-      ++ (bytes_of " answer=" ∷ decimal (get_or ns 2 0) ∷ bytes_of ": " ∷ (what ++ bytes_of "; " ++ then) ∷ bytes_of "\n" ∷ []))
-  unfolding filled_by marked_by plain_value
-  bill_explained w = rw (reason_is what then (10 ∷ []))
+  stop_tabled : Tabled stop
+  unfolding table_first table_template filled_by marked_by plain_value table_for
+  stop_tabled = refl
 
-  explanation_by : (w : ℕ) (s o m z : Bool) → eqb n 0 ≡ z
-      → filled_by (marked_by ns w) what then 0 (explanation_template (kind_for s o m) (refused n))
-      ≡ cond s
-      (joined (bytes_of "line=" ∷ decimal (get_or ns 0 0) ∷ bytes_of ": " ∷ (what ++ bytes_of "; " ++ then) ∷ bytes_of "\n" ∷ []))
-      (cond z []
-      (cond o
-      (joined (bytes_of "open=" ∷ decimal (get_or ns 0 0) ∷ bytes_of ": " ∷ (what ++ bytes_of "; " ++ then) ∷ bytes_of "\n" ∷ []))
-      (joined
-      (bytes_of "bill=" ∷ month_parts ns
-      ++ (bytes_of " answer=" ∷ decimal (get_or ns 2 0) ∷ bytes_of ": " ∷ (what ++ bytes_of "; " ++ then) ∷ bytes_of "\n" ∷ [])))))
-  unfolding explanation_template filled_by marked_by plain_value
-  explanation_by w true o m z e = rw (reason_is what then (10 ∷ []))
-  explanation_by w false true m true e = rw e
-  explanation_by w false true m false e = rw (e, reason_is what then (10 ∷ []))
-  explanation_by w false false true true e = rw e
-  explanation_by w false false true false e = rw e (bill_explained w)
-  explanation_by w false false false true e = rw e
-  explanation_by w false false false false e = rw e (bill_explained w)
+  opening_tabled : (z : Bool) → eqb (get_or ns 0 0) 0 ≡ z → Tabled opening
+  unfolding table_first table_template filled_by marked_by plain_value table_for refusal_of row_of
+  opening_tabled true e = rw e
+  opening_tabled false e = rw e
 
--- A template filled in for a line is what is shown of it,
+  month_tabled : Held ns → (z : Bool) → eqb (get_or ns 2 0) 0 ≡ z → Tabled month
+  unfolding table_first table_template filled_by marked_by plain_value table_for refusal_of row_of
+  month_tabled f true e = rw e (sym (month_is ns (wrong_at (row month)) (to_do_at (row month)) f))
+  month_tabled f false e = rw e
+
+  other_tabled : (b : ℕ) → eqb b stop ≡ false → eqb b opening ≡ false → eqb b month ≡ false → Tabled b
+  unfolding table_first table_template filled_by table_for
+  other_tabled b s o m = rw (s, o, m)
+
+  table_by : Held ns → (b : ℕ) → Tabled b
+  table_by f = by_kind Tabled stop_tabled (opening_tabled _ refl) (month_tabled f _ refl) other_tabled
+
+-- or an explanation.
+module _ (ns : List ℕ) (w : ℕ) where
+  abbrev Explained : ℕ → Type 0
+  Explained b =
+      filled_by (marked_by ns w) (wrong_at (row ns b)) (to_do_at (row ns b)) 0 (explanation_template (kind_by b ns))
+      ≡ explanation_for b ns (refusal_of b ns)
+
+  stop_explained : Explained stop
+  unfolding explanation_template filled_by marked_by plain_value explanation_for row_of
+  stop_explained = rw (reason_is stop_row (10 ∷ []))
+
+  opening_explained : (z : Bool) → eqb (get_or ns 0 0) 0 ≡ z → Explained opening
+  unfolding explanation_template filled_by marked_by plain_value explanation_for refusal_of row_of
+  opening_explained true e = rw e
+  opening_explained false e = rw (e, reason_is (row ns opening) (10 ∷ []))
+
+  month_explained : (z : Bool) → eqb (get_or ns 2 0) 0 ≡ z → Explained month
+  unfolding explanation_template filled_by marked_by plain_value explanation_for refusal_of row_of
+  month_explained true e = rw e
+  month_explained false e = rw (e, reason_is (row ns month) (10 ∷ []))
+
+  other_explained : (b : ℕ) → eqb b stop ≡ false → eqb b opening ≡ false → eqb b month ≡ false → Explained b
+  unfolding explanation_template filled_by explanation_for refusal_of
+  other_explained b s o m = rw (s, o, m)
+
+  explanation_by : (b : ℕ) → Explained b
+  explanation_by = by_kind Explained stop_explained (opening_explained _ refl) (month_explained _ refl) other_explained
+
+-- So it is for every line,
 module _ (line : List ℕ) where
   abbrev kind : Kind
-  kind = kind_by (kind_of line)
-
-  abbrev refusal : Option ℕ
-  refusal = refusal_by kind (numbers_of line)
-
-  abbrev row : ℕ
-  row = row_by kind (unwrap_or refusal 0)
+  kind = kind_by (kind_of line) (numbers_of line)
 
   pub table_is :
-      filled_by (marked_by (numbers_of line) (width_of (numbers_of line))) (wrong_at row) (to_do_at row) (table_first kind refusal)
-      (table_template kind refusal)
+      filled_by (marked_by (numbers_of line) (width_of (numbers_of line))) (wrong_at (row_by kind)) (to_do_at (row_by kind)) (table_first kind)
+      (table_template kind)
       ≡ table_of line
-  unfolding table_of table_for
-  table_is =
-      let b = kind_of line in
-      let ns = numbers_of line in
-      let n = refusal_of b ns in
-      rw (refusal_same b ns, number_same n, row_same b n)
-      (table_by ns (wrong_at (row_of b n)) (to_do_at (row_of b n)) n (numbers_held line) (eqb b stop) (eqb b opening) (eqb b month) (eqb n 0) refl)
+  unfolding table_of
+  table_is = table_by (numbers_of line) (numbers_held line) (kind_of line)
 
   pub explanation_is : (w : ℕ)
-      → filled_by (marked_by (numbers_of line) w) (wrong_at row) (to_do_at row) 0 (explanation_template kind refusal) ≡ explanation_of line
-  unfolding explanation_of explanation_for explained_at to_do_at
-  explanation_is w =
-      let b = kind_of line in
-      let ns = numbers_of line in
-      let n = refusal_of b ns in
-      rw (refusal_same b ns, number_same n, row_same b n)
-      (explanation_by ns (wrong_at (row_of b n)) (to_do_at (row_of b n)) n w (eqb b stop) (eqb b opening) (eqb b month) (eqb n 0) refl)
+      → filled_by (marked_by (numbers_of line) w) (wrong_at (row_by kind)) (to_do_at (row_by kind)) 0 (explanation_template kind)
+      ≡ explanation_of line
+  unfolding explanation_of
+  explanation_is w = explanation_by (numbers_of line) w (kind_of line)
 
-  -- and so is what the code writes.
-  module _ {o o1 ns t : List ℕ} {i j r first : ℕ} {k : Kind} {n : Option ℕ} (ek : k ≡ kind) (en : ns ≡ numbers_of line) (er : n ≡ refusal_by k ns)
-      (erow : r ≡ row_by k (unwrap_or n 0)) where
-    pub table_shown : {w : ℕ} → w ≡ width_of ns → t ≡ table_template k n → first ≡ table_first k n
-        → PutIn table_room o i (filled_by (marked_by ns w) (wrong_at r) (to_do_at r) first t) o1 j
+  -- and what the code writes is that.
+  module _ {o o1 ns t : List ℕ} {i j first : ℕ} {k : Kind} (ek : k ≡ kind_by (kind_of line) ns) (en : ns ≡ numbers_of line) where
+    pub table_shown : {w : ℕ} → w ≡ width_of ns → t ≡ table_template k → first ≡ table_first k
+        → PutIn table_room o i (filled_by (marked_by ns w) (wrong_at (row_by k)) (to_do_at (row_by k)) first t) o1 j
         → PutIn table_room o i (table_of line) o1 j
-    table_shown ew et ef p = rw (et, ef, erow, ew, er, en, ek, table_is) at p
+    table_shown ew et ef p = rw (et, ef, ew, ek, en, table_is) at p
 
-    pub explanation_shown : (w : ℕ) → t ≡ explanation_template k n → first ≡ 0
-        → PutIn table_room o i (filled_by (marked_by ns w) (wrong_at r) (to_do_at r) first t) o1 j
+    pub explanation_shown : (w : ℕ) → t ≡ explanation_template k → first ≡ 0
+        → PutIn table_room o i (filled_by (marked_by ns w) (wrong_at (row_by k)) (to_do_at (row_by k)) first t) o1 j
         → PutIn table_room o i (explanation_of line) o1 j
-    explanation_shown w et ef p = rw (et, ef, erow, er, en, ek, explanation_is w) at p
+    explanation_shown w et ef p = rw (et, ef, ek, en, explanation_is w) at p

@@ -1,13 +1,13 @@
 -- No template is too long, and no reason.
 use mathlib.Core.Path.{◌≡◌, refl}
-use mathlib.Core.Bool.{Bool, true, ◌&&◌}
+use mathlib.Core.Bool.{Bool, true, false, cond, ◌&&◌}
 use mathlib.Core.List.{List, [], ◌∷◌}
 use Prim.Native.Nat.{ℕ, zero, suc, ◌≤◌}
 use borrow.Author.Tests.{leb-true}
-use lib.Dec.{leb, lit≤}
+use lib.Dec.{eqb, leb, lit≤}
 use lib.ListN.{length, get_or}
 use Rattle.std.proofs.lemmas.Bool.{and_parts}
-use Rattle.std.specs.Prelude.{Option, None, Some}
+use Rattle.text.specs.Text.{bytes_of}
 use Rattle.table.specs.Reasons.{wrong, to_do, wrong_at}
 use Rattle.table.specs.declared.Kind.{Kind}
 use Rattle.table.specs.declared.Kind.TheVariants.{Opening, Month, Stop, Other}
@@ -32,29 +32,35 @@ pub to_do_short : (row : ℕ) → length (to_do_at row) ≤ 80
 unfolding to_do_at all_within
 to_do_short row = each_within 80 to_do row refl (lit≤ tt)
 
-pub table_most : (k : Kind) (r : Option ℕ) → most_filled (table_template k r) ≤ 2048
+-- A template that is filled in has room, and so has one of two.
+abbrev Short : List ℕ → Type 0
+Short t = most_filled t ≤ 2048
+
+one_short : (x y : List ℕ) (z : Bool) → Short x → Short y → Short (cond z x y)
+one_short x y true h l = h
+one_short x y false h l = l
+
+pub table_most : (k : Kind) → Short (table_template k)
 unfolding table_template month_template most_filled
-table_most Stop r = lit≤ tt
-table_most Opening None = lit≤ tt
-table_most Opening (Some n) = lit≤ tt
-table_most Month None = lit≤ tt
-table_most Month (Some n) = lit≤ tt
-table_most Other r = lit≤ tt
+table_most Stop = lit≤ tt
+table_most (Opening n) = one_short (bytes_of "account opened\n\n") (bytes_of "opening refused, #: ~\n\n") (eqb n 0) (lit≤ tt) (lit≤ tt)
+table_most (Month n) = one_short month_template (bytes_of "#-##  refused, #: ~\n\n") (eqb n 0) (lit≤ tt) (lit≤ tt)
+table_most Other = lit≤ tt
 
-pub table_few : (k : Kind) (r : Option ℕ) → table_first k r ≤ 4
+pub table_few : (k : Kind) → table_first k ≤ 4
 unfolding table_first
-table_few Stop r = lit≤ tt
-table_few Opening r = lit≤ tt
-table_few Month None = lit≤ tt
-table_few Month (Some n) = lit≤ tt
-table_few Other r = lit≤ tt
+table_few Stop = lit≤ tt
+table_few (Opening n) = lit≤ tt
+table_few (Month n) = by (eqb n 0)
+  where
+    by : (z : Bool) → cond z 4 0 ≤ 4
+    by true = lit≤ tt
+    by false = lit≤ tt
+table_few Other = lit≤ tt
 
-pub explanation_most : (k : Kind) (r : Option ℕ) → most_filled (explanation_template k r) ≤ 2048
+pub explanation_most : (k : Kind) → Short (explanation_template k)
 unfolding explanation_template most_filled
-explanation_most Stop r = lit≤ tt
-explanation_most Opening None = lit≤ tt
-explanation_most Opening (Some n) = lit≤ tt
-explanation_most Month None = lit≤ tt
-explanation_most Month (Some n) = lit≤ tt
-explanation_most Other None = lit≤ tt
-explanation_most Other (Some n) = lit≤ tt
+explanation_most Stop = lit≤ tt
+explanation_most (Opening n) = one_short [] (bytes_of "open=#: ~; !\n") (eqb n 0) (lit≤ tt) (lit≤ tt)
+explanation_most (Month n) = one_short [] (bytes_of "bill=#-## answer=#: ~; !\n") (eqb n 0) (lit≤ tt) (lit≤ tt)
+explanation_most Other = lit≤ tt

@@ -1,9 +1,10 @@
 -- What the private functions promise each other. No public contract cites this file.
-use Rattle.std.specs.Prelude.{◌≡◌, false, cond, List, [], ◌∷◌, ◌++◌, ℕ, zero, suc, ◌+◌, ◌-◌, ◌/◌, ◌%◌, ◌≤◌, eqb, ltb, get_or, Option, None, Some}
+use Rattle.std.specs.Prelude.{◌≡◌, cond, List, [], ◌∷◌, ◌++◌, ℕ, zero, suc, ◌+◌, ◌-◌, ◌/◌, ◌%◌, ◌≤◌, eqb, ltb, get_or}
+use Rattle.std.specs.List.{fold}
 use Rattle.text.specs.Text.{bytes_of}
 use Rattle.printing.specs.Text.{digit_byte, decimal}
-use Rattle.table.specs.Numbers.{numbers_after, first_of, opening, month, stop}
-use Rattle.table.specs.Reasons.{to_do, opening_row, month_row, stop_row}
+use Rattle.table.specs.Numbers.{with_digit, opening, month, stop}
+use Rattle.table.specs.Reasons.{to_do, opening_row, month_row, other_row, stop_row}
 use Rattle.table.specs.Table.{amount, total, width_of}
 use Rattle.table.specs.declared.Kind.{Kind}
 use Rattle.table.specs.declared.Kind.TheVariants.{Opening, Month, Stop, Other}
@@ -11,20 +12,10 @@ use Rattle.table.specs.declared.Row.{Row}
 use Rattle.table.specs.declared.Row.TheVariants.{NeverOpened, Amounts, Nameplates, Business, FirstMonth, OtherMonth, Readings, CriticalDays, LargeReading, LastMonth, FirstLost, Unknown, Stopped}
 use Rattle.table.specs.declared.Shown.{Shown}
 
--- The kind of a line by its first byte.
-abbrev pub kind_by : ℕ → Kind
-kind_by b = cond (eqb b stop) Stop (cond (eqb b opening) Opening (cond (eqb b month) Month Other))
-
--- The number of a refusal; 0 is none.
-abbrev pub refused : ℕ → Option ℕ
-refused n = cond (eqb n 0) None (Some n)
-
--- The number of the refusal that a line of a kind tells, if it tells one.
-abbrev pub refusal_by : Kind → List ℕ → Option ℕ
-refusal_by Opening ns = refused (get_or ns 0 0)
-refusal_by Month ns = refused (get_or ns 2 0)
-refusal_by Stop ns = None
-refusal_by Other ns = None
+-- The kind of a line with numbers ns by its first byte, with the number of the refusal that it tells; 0 is none.
+abbrev pub kind_by : ℕ → List ℕ → Kind
+kind_by b ns =
+    cond (eqb b stop) Stop (cond (eqb b opening) (Opening (get_or ns 0 0)) (cond (eqb b month) (Month (get_or ns 2 0)) Other))
 
 -- The number of a row of the reasons.
 abbrev pub row_number : Row → ℕ
@@ -43,18 +34,18 @@ row_number Unknown = 11
 row_number Stopped = 12
 
 -- The row of a line's reason by its kind.
-abbrev pub row_by : Kind → ℕ → ℕ
-row_by Stop n = stop_row
-row_by Opening n = opening_row n
-row_by Month n = month_row n
-row_by Other n = month_row n
+abbrev pub row_by : Kind → ℕ
+row_by Stop = stop_row
+row_by (Opening n) = opening_row n
+row_by (Month n) = month_row n
+row_by Other = other_row
 
 unfoldable pub to_do_at : ℕ → List ℕ
 to_do_at row = get_or to_do row []
 
--- The next number of a line, or 0 where there is none, and what is left of the line.
-pub record NextNumber (l : List ℕ) (v : ℕ) (rest : List ℕ) : Type 0 where
-  pub found : (k : ℕ) → first_of (suc k) (numbers_after false 0 l) ≡ v ∷ first_of k (numbers_after false 0 rest)
+-- The value of a run of digits.
+abbrev pub value_of : List ℕ → ℕ
+value_of run = fold with_digit 0 run
 
 -- The numbers of a table, in its order: of each period the seven amounts (0 to 27), their sums (28 to 34), energy and due.
 unfoldable pub cell_at : List ℕ → ℕ → ℕ
@@ -119,28 +110,22 @@ month_template =
     ++ bytes_of "\ncritical#######\non-peak #######\noff-peak#######\ndiscount#######\nsum     #######"
     ++ bytes_of "\nenergy  #.##\ndue     #.##\n\n"
 
--- The template that is filled in for a line of a kind that tells a refusal or none, and its first mark.
-unfoldable pub table_template : Kind → Option ℕ → List ℕ
-table_template Stop refusal = bytes_of "stopped at line #\n\n"
-table_template Opening None = bytes_of "account opened\n\n"
-table_template Opening (Some n) = bytes_of "opening refused, #: ~\n\n"
-table_template Month None = month_template
-table_template Month (Some n) = bytes_of "#-##  refused, #: ~\n\n"
-table_template Other refusal = []
+-- The template that is filled in for a line of a kind, and its first mark.
+unfoldable pub table_template : Kind → List ℕ
+table_template Stop = bytes_of "stopped at line #\n\n"
+table_template (Opening n) = cond (eqb n 0) (bytes_of "account opened\n\n") (bytes_of "opening refused, #: ~\n\n")
+table_template (Month n) = cond (eqb n 0) month_template (bytes_of "#-##  refused, #: ~\n\n")
+table_template Other = []
 
-unfoldable pub table_first : Kind → Option ℕ → ℕ
-table_first Stop refusal = 0
-table_first Opening refusal = 0
-table_first Month None = 4
-table_first Month (Some n) = 0
-table_first Other refusal = 0
+unfoldable pub table_first : Kind → ℕ
+table_first Stop = 0
+table_first (Opening n) = 0
+table_first (Month n) = cond (eqb n 0) 4 0
+table_first Other = 0
 
 -- Likewise for an explanation, whose first mark is 0.
-unfoldable pub explanation_template : Kind → Option ℕ → List ℕ
-explanation_template Stop refusal = bytes_of "line=#: ~; !\n"
-explanation_template Opening None = []
-explanation_template Opening (Some n) = bytes_of "open=#: ~; !\n"
-explanation_template Month None = []
-explanation_template Month (Some n) = bytes_of "bill=#-## answer=#: ~; !\n"
-explanation_template Other None = []
-explanation_template Other (Some n) = bytes_of "bill=#-## answer=#: ~; !\n"
+unfoldable pub explanation_template : Kind → List ℕ
+explanation_template Stop = bytes_of "line=#: ~; !\n"
+explanation_template (Opening n) = cond (eqb n 0) [] (bytes_of "open=#: ~; !\n")
+explanation_template (Month n) = cond (eqb n 0) [] (bytes_of "bill=#-## answer=#: ~; !\n")
+explanation_template Other = []

@@ -1,20 +1,20 @@
 // What the options of `statement` show of a printed line, with its newline or without: a table, an explanation.
 #![tactic(auto)]
 
-ghost use Rattle.std.specs.Prelude.{◌≡◌, true, ◌+◌, ◌*◌, ◌≤◌, ◌<◌, length, unwrap_or};
+ghost use Rattle.std.specs.Prelude.{◌≡◌, true, ◌+◌, ◌*◌, ◌≤◌, ◌<◌, length};
 ghost use Rattle.numerals.specs.Numerals.{is_digit};
 ghost use Rattle.printing.specs.Writing.{Wrote, PutIn};
-ghost use Rattle.table.specs.Numbers.{capped, with_digit, numbers_of, kind_of, refusal_of};
+ghost use Rattle.table.specs.Numbers.{capped, with_digit, numbers_of, kind_of};
 ghost use Rattle.table.specs.Reasons.{wrong_at};
 ghost use Rattle.table.specs.Table.{table_of, table_room};
 ghost use Rattle.table.specs.Explaining.{explanation_of};
-ghost use Rattle.table.specs.Filling.{NextNumber, kind_by, refused, refusal_by, row_number, row_by, to_do_at, cell_at, Width, column_byte, column_rest, column, shown_of, plain_value, marked_by, filled_by, most_filled, table_template, table_first, explanation_template};
+ghost use Rattle.table.specs.Filling.{value_of, kind_by, row_number, row_by, to_do_at, cell_at, Width, column_byte, column_rest, column, shown_of, plain_value, marked_by, filled_by, most_filled, table_template, table_first, explanation_template};
 
 // A table or an explanation has at most this many bytes.
 const TABLE_ROOM: usize = 2048;
 
-// The numbers of a month's line. They are a list and no struct, as in the definition: a line is read whatever its kind, and its numbers have names only where it is
-// a month's.
+// The numbers of a month's line. They are a list and no struct, as in the definition: a line is read whatever its kind, and its numbers have names only where
+// it is a month's.
 const NUMBERS: usize = 33;
 
 // The numbers of a table.
@@ -30,11 +30,11 @@ const WIDE: usize = 28;
 // The first mark of the table of a month: those before it are the marks of notes.
 const TABLE_MARK: usize = 4;
 
-// What a line tells.
+// What a line tells. An opening and a month have the number of their refusal, as the line shows it: 0 says that nothing was refused.
 #[derive(Clone, Copy)]
 enum Kind {
-    Opening,
-    Month,
+    Opening(u64),
+    Month(u64),
     Stop,
     Other,
 }
@@ -64,8 +64,9 @@ struct Reason {
     to_do: &'static [u8],
 }
 
-// A text with marks: `#` for a number, `~` for what is wrong and `!` for what to do. Its `#`s are counted from its first mark on. A template, for the reasons that
-// `printing` has for its own; the two differ in what a mark takes and in the room.
+// A text with marks: `#` for a number, `~` for what is wrong and `!` for what to do. Its `#`s are counted from its first mark on. A template, for the reasons
+// that `printing` has for its own; the two differ in what a mark takes and in the room. One function for both, given what a mark puts, would need a contract
+// that says, for any such function, which text the pieces make.
 #[derive(Clone, Copy)]
 struct Template {
     text: &'static [u8],
@@ -80,85 +81,64 @@ struct Shown {
     place: usize,
 }
 
-// What is read of a line: its kind, its refusal, its numbers, and how wide their columns are in a table.
+// What is read of a line: its kind, its numbers, and how wide their columns are in a table.
 #[derive(Drop)]
 struct Sheet {
     kind: Kind,
-    refusal: Option<u64>,
     numbers: [u64; NUMBERS],
     width: usize,
     ghost least: { 13 ≤ width },
     ghost most: { width ≤ 28 },
 }
 
+// The value of a number with a digit more. As by the definition's `-`, a byte below `0` adds nothing; a run has none.
 #[tactic(auto, unfolding(crate::specs::Numbers::with_digit))]
 fn with_digit(value: u64, byte: u8) -> u64
-    requires { is_digit byte ≡ true }
     ensures { result ≡ with_digit value byte }
 {
     value
         .saturating_mul(10)
-        .saturating_add(u64::from(byte - b'0'))
+        .saturating_add(u64::from(byte.saturating_sub(b'0')))
 }
 
-// The next number of a line, or 0 where there is none, and the rest of the line.
-fn next_number(line: &[u8]) -> (u64, &[u8])
-    ensures { NextNumber line.now result.0 result.1.now }
+// The value of a run of digits. `parse` has no answer where 64 bits don't hold the number; here it stays at their largest.
+fn value_of(run: &[u8]) -> u64
+    ensures { result ≡ value_of run.now }
 {
-    let mut value = None;
-    for (place, byte) in line.iter().enumerate() {
-        if byte.is_ascii_digit() {
-            value = Some(with_digit(value.unwrap_or(0), *byte));
-        } else if let Some(number) = value {
-            return (number, &line[place + 1..]);
-        }
-    }
-    (value.unwrap_or(0), &line[line.len()..])
+    run.iter().fold(0, |value, byte| with_digit(value, *byte))
 }
 
+// The numbers of a line, one for each run of digits, and 0 where there is none, as the definition fills all 33 places. They are stored by place: a loop over
+// `numbers.iter_mut().zip(values)` is shorter, but nothing is known then of what it wrote (tried).
 fn numbers_of(line: &[u8]) -> [u64; NUMBERS]
     ensures { result ≡ numbers_of line.now }
 {
     let mut numbers = [0; NUMBERS];
-    let mut rest = line;
-    for number in &mut numbers {
-        (*number, rest) = next_number(rest);
+    let values = line
+        .split(|byte| !byte.is_ascii_digit())
+        .filter(|run| !run.is_empty())
+        .map(value_of);
+    for (place, value) in values.take(NUMBERS).enumerate() {
+        numbers[place] = value;
     }
     numbers
 }
 
+// The kind of a line with these numbers.
 #[tactic(auto, unfolding(crate::specs::Numbers::kind_of))]
-fn kind_of(line: &[u8]) -> Kind
-    ensures { result ≡ kind_by (kind_of line.now) }
+fn kind_of(line: &[u8], numbers: &[u64; NUMBERS]) -> Kind
+    ensures { result ≡ kind_by (kind_of line.now) numbers.now }
 {
     match line.first() {
         Some(b'l') => Kind::Stop,
-        Some(b'o') => Kind::Opening,
-        Some(b'b') => Kind::Month,
+        Some(b'o') => Kind::Opening(numbers[0]),
+        Some(b'b') => Kind::Month(numbers[2]),
         _ => Kind::Other,
     }
 }
 
-// The number of a refusal, if it is one: 0 says that nothing was refused.
-fn refused(number: u64) -> Option<u64>
-    ensures { result ≡ refused number }
-{
-    (number != 0).then_some(number)
-}
-
-// The number of the refusal that a line tells, if it tells one.
-fn refusal_of(kind: Kind, numbers: &[u64; NUMBERS]) -> Option<u64>
-    ensures { result ≡ refusal_by kind numbers.now }
-{
-    match kind {
-        Kind::Opening => refused(numbers[0]),
-        Kind::Month => refused(numbers[2]),
-        Kind::Stop | Kind::Other => None,
-    }
-}
-
-// The numbers of a table in its order: the amounts by period, their sums, energy and due. `ByPeriod::total` is such a sum, but a `ByPeriod` would first have to be
-// made of these four.
+// The numbers of a table in its order: the amounts by period, their sums, energy and due. `ByPeriod::total` is such a sum, but a `ByPeriod` would first have to
+// be made of these four.
 #[tactic(auto, unfolding(crate::specs::Filling::cell_at))]
 fn cell_of(numbers: &[u64; NUMBERS], k: usize) -> u64
     requires { k < 37 }
@@ -188,6 +168,8 @@ fn width_of(numbers: &[u64; NUMBERS]) -> usize
     }
 }
 
+// The byte of a number that so many of its bytes follow: a digit, every fourth time a comma, and a blank once no digit is left. Here, in the rest and in
+// `put_column` number and place go as two, as in the definitions of the same names. No format of std, nor `itoa`, groups digits by commas.
 fn column_byte(number: u64, place: usize) -> u8
     ensures { result ≡ column_byte place number }
 {
@@ -203,14 +185,15 @@ fn column_byte(number: u64, place: usize) -> u8
     }
 }
 
+// What is left of the number for the bytes before that one.
 fn column_rest(number: u64, place: usize) -> u64
     ensures { result ≡ column_rest place number }
 {
     if place % 4 == 3 { number } else { number / 10 }
 }
 
-// Writes a number over all of a part, at its right end: its last byte, and what is left of the number over the bytes before. It calls itself, as `column` does: a loop
-// over the bytes from the right would have to carry the number and its place along.
+// Writes a number over all of a part, at its right end: its last byte, and what is left of the number over the bytes before. It calls itself, as `column`
+// does: a loop over `out.iter_mut().rev()` is as short, but nothing is known then of what it wrote (tried).
 fn put_column(out: &mut [u8], number: u64, place: usize)
     requires { place + length out.old ≤ 32 }
     ensures { out.new ≡ column (length out.old) place number }
@@ -232,45 +215,38 @@ fn put_bytes(out: &mut [u8], bytes: &[u8]) -> usize
 // The numbers of a note: year, month in two digits, answer.
 #[tactic(auto, unfolding(crate::specs::Filling::plain_value))]
 fn plain_value(numbers: &[u64; NUMBERS], k: usize) -> u64
+    requires { k < 4 }
     ensures { result ≡ plain_value numbers.now k }
 {
-    match k {
-        0 => numbers[0],
-        1 => numbers[1] / 10,
-        2 => numbers[1] % 10,
-        _ => numbers[2],
-    }
+    let [first, second, third, ..] = *numbers;
+    [first, second / 10, second % 10, third][k]
 }
 
-// The row of a refusal's reason, or of a stop's. The number is one that a line shows, of any size, and no `Refusal`: that would first have to be made of it, by the
-// same match.
+// The row of a refusal's reason, or of a stop's. The number is one that a line shows, of any size, and no `Refusal`: that would first have to be made of it, by
+// the same match.
 #[tactic(auto, unfolding(crate::specs::Reasons::opening_row, crate::specs::Reasons::month_row))]
-fn row_of(kind: Kind, refusal: Option<u64>) -> Row
-    ensures { row_number result ≡ row_by kind (unwrap_or refusal 0) }
+fn row_of(kind: Kind) -> Row
+    ensures { row_number result ≡ row_by kind }
 {
     match kind {
         Kind::Stop => Row::Stopped,
-        Kind::Opening => match refusal {
-            Some(4) => Row::Amounts,
-            Some(5) => Row::Nameplates,
-            Some(6) => Row::Business,
-            Some(7) => Row::FirstMonth,
-            _ => Row::Unknown,
-        },
-        Kind::Month | Kind::Other => match refusal {
-            Some(1) => Row::NeverOpened,
-            Some(7) => Row::OtherMonth,
-            Some(8) => Row::Readings,
-            Some(9) => Row::CriticalDays,
-            Some(10) => Row::LargeReading,
-            Some(11) => Row::LastMonth,
-            Some(13) => Row::FirstLost,
-            _ => Row::Unknown,
-        },
+        Kind::Opening(4) => Row::Amounts,
+        Kind::Opening(5) => Row::Nameplates,
+        Kind::Opening(6) => Row::Business,
+        Kind::Opening(7) => Row::FirstMonth,
+        Kind::Month(1) => Row::NeverOpened,
+        Kind::Month(7) => Row::OtherMonth,
+        Kind::Month(8) => Row::Readings,
+        Kind::Month(9) => Row::CriticalDays,
+        Kind::Month(10) => Row::LargeReading,
+        Kind::Month(11) => Row::LastMonth,
+        Kind::Month(13) => Row::FirstLost,
+        Kind::Opening(_) | Kind::Month(_) | Kind::Other => Row::Unknown,
     }
 }
 
 impl Row {
+    // What is wrong and what to do, of a row.
     #[tactic(auto, unfolding(crate::specs::Filling::to_do_at, crate::specs::Reasons::wrong_at))]
     fn reason(self) -> Reason
         ensures wrong { result.wrong.now ≡ wrong_at (row_number self) }
@@ -346,60 +322,60 @@ impl Template {
     }
 }
 
-// Templates and rows go by kind and refusal and not by a sheet, of whose numbers they need none.
+// The template of a table. Templates and rows go by kind and not by a sheet, of whose numbers they need no other.
 #[tactic(auto, unfolding(crate::specs::Filling::table_template, crate::specs::Filling::table_first, crate::specs::Filling::month_template))]
-fn table_template(kind: Kind, refusal: Option<u64>) -> Template
-    ensures text { result.text.now ≡ table_template kind refusal }
-    ensures first { result.first_mark ≡ table_first kind refusal }
+fn table_template(kind: Kind) -> Template
+    ensures text { result.text.now ≡ table_template kind }
+    ensures first { result.first_mark ≡ table_first kind }
 {
-    match (kind, refusal) {
-        (Kind::Stop, _) => Template::note(b"stopped at line #\n\n"),
-        (Kind::Opening, None) => Template::note(b"account opened\n\n"),
-        (Kind::Opening, Some(_)) => Template::note(b"opening refused, #: ~\n\n"),
-        (Kind::Month, None) => Template {
+    match kind {
+        Kind::Stop => Template::note(b"stopped at line #\n\n"),
+        Kind::Opening(0) => Template::note(b"account opened\n\n"),
+        Kind::Opening(_) => Template::note(b"opening refused, #: ~\n\n"),
+        Kind::Month(0) => Template {
             text: b"#-## #        3 own#        4 out#         5 in#       6 paid#  7 forfeited#     8 billed#       9 left\n\
                 critical#######\non-peak #######\noff-peak#######\ndiscount#######\nsum     #######\n\
                 energy  #.##\ndue     #.##\n\n",
             first_mark: TABLE_MARK,
         },
-        (Kind::Month, Some(_)) => Template::note(b"#-##  refused, #: ~\n\n"),
-        (Kind::Other, _) => Template::note(b""),
+        Kind::Month(_) => Template::note(b"#-##  refused, #: ~\n\n"),
+        Kind::Other => Template::note(b""),
     }
 }
 
+// The template of an explanation: that of a refusal or a stop, and otherwise an empty one.
 #[tactic(auto, unfolding(crate::specs::Filling::explanation_template))]
-fn explanation_template(kind: Kind, refusal: Option<u64>) -> Template
-    ensures text { result.text.now ≡ explanation_template kind refusal }
+fn explanation_template(kind: Kind) -> Template
+    ensures text { result.text.now ≡ explanation_template kind }
     ensures first { result.first_mark ≡ 0 }
 {
-    match (kind, refusal) {
-        (Kind::Stop, _) => Template::note(b"line=#: ~; !\n"),
-        (_, None) => Template::note(b""),
-        (Kind::Opening, Some(_)) => Template::note(b"open=#: ~; !\n"),
-        (Kind::Month | Kind::Other, Some(_)) => Template::note(b"bill=#-## answer=#: ~; !\n"),
+    match kind {
+        Kind::Stop => Template::note(b"line=#: ~; !\n"),
+        Kind::Opening(0) | Kind::Month(0) | Kind::Other => Template::note(b""),
+        Kind::Opening(_) => Template::note(b"open=#: ~; !\n"),
+        Kind::Month(_) => Template::note(b"bill=#-## answer=#: ~; !\n"),
     }
 }
 
 impl Sheet {
+    // The sheet of a line.
     fn of(line: &[u8]) -> Sheet
-        ensures kind { result.kind ≡ kind_by (kind_of line.now) }
+        ensures kind { result.kind ≡ kind_by (kind_of line.now) result.numbers }
         ensures numbers { result.numbers ≡ numbers_of line.now }
-        ensures refusal { result.refusal ≡ refusal_by result.kind result.numbers }
         ensures width { Width result.numbers result.width }
     {
-        let kind = kind_of(line);
         let numbers = numbers_of(line);
-        let refusal = refusal_of(kind, &numbers);
+        let kind = kind_of(line, &numbers);
         let width = width_of(&numbers);
         Sheet {
             kind,
-            refusal,
             numbers,
             width,
         }
     }
 
-    // What stands in a table's columns, by the count of its mark: blanks that widen the seven headings, the numbers, energy and due in dollars and two digits of cents.
+    // What stands in a table's columns, by the count of its mark: blanks that widen the seven headings, the numbers, energy and due in dollars and two digits
+    // of cents.
     #[tactic(auto, unfolding(crate::specs::Filling::shown_of))]
     fn shown(&self, k: usize) -> Shown
         ensures { result ≡ shown_of self.now.numbers self.now.width k }
@@ -437,8 +413,8 @@ impl Sheet {
         }
     }
 
-    // Writes what stands for a mark of a template. Notes begin with mark 0 and tables with mark 4. Marks are numbers and no enum: they are counted along the text, and
-    // which number stands for one is a formula of its count, from which an enum would first have to be made.
+    // Writes what stands for a mark of a template. Notes begin with mark 0 and tables with mark 4. Marks are numbers and no enum: they are counted along the
+    // text, and which number stands for one is a formula of its count, from which an enum would first have to be made.
     fn put_mark(&self, out: &mut [u8], mark: usize) -> usize
         requires { 28 ≤ length out.old }
         ensures { Wrote out.old 0 (marked_by self.now.numbers self.now.width mark) out.new result }
@@ -452,14 +428,14 @@ impl Sheet {
     }
 
     // Fills in a template at the front, where there is room, and says how many bytes that are; otherwise 0.
-    fn put(&self, out: &mut [u8], template: Template, row: Row) -> usize
+    fn put(&self, out: &mut [u8], template: Template) -> usize
         requires { (most_filled template.text.now ≤ table_room) × (template.first_mark ≤ 4) }
-        ensures { PutIn table_room out.old 0 (filled_by (marked_by self.now.numbers self.now.width) (wrong_at (row_number row)) (to_do_at (row_number row)) template.first_mark template.text.now) out.new result }
+        ensures { let row = row_by self.now.kind in PutIn table_room out.old 0 (filled_by (marked_by self.now.numbers self.now.width) (wrong_at row) (to_do_at row) template.first_mark template.text.now) out.new result }
     {
         if out.len() < TABLE_ROOM {
             return 0;
         }
-        let reason = row.reason();
+        let reason = row_of(self.kind).reason();
         let mut end = 0;
         let mut mark = template.first_mark;
         for byte in template.text {
@@ -479,14 +455,14 @@ impl Sheet {
     }
 }
 
-// Writes the table for a printed line at the front, where there is room, and says how many bytes it has; otherwise 0. This and the next differ in the template's
-// choice alone, and by a function that is given the choice each would be as long.
+// Writes the table for a printed line at the front, where there is room, and says how many bytes it has; otherwise 0. This and the next differ in the
+// template's choice alone, and by a function that is given the choice each would be as long.
 pub fn put_table(out: &mut [u8], line: &[u8]) -> usize
     ensures { PutIn table_room out.old 0 (table_of line.now) out.new result }
 {
     let sheet = Sheet::of(line);
-    let table = table_template(sheet.kind, sheet.refusal);
-    sheet.put(out, table, row_of(sheet.kind, sheet.refusal))
+    let table = table_template(sheet.kind);
+    sheet.put(out, table)
 }
 
 // Writes the explanation of a printed line at the front, where there is room, and says how many bytes it has; otherwise 0.
@@ -494,6 +470,6 @@ pub fn put_explanation(out: &mut [u8], line: &[u8]) -> usize
     ensures { PutIn table_room out.old 0 (explanation_of line.now) out.new result }
 {
     let sheet = Sheet::of(line);
-    let note = explanation_template(sheet.kind, sheet.refusal);
-    sheet.put(out, note, row_of(sheet.kind, sheet.refusal))
+    let note = explanation_template(sheet.kind);
+    sheet.put(out, note)
 }

@@ -196,17 +196,14 @@ impl PriceList {
     {
         let energy = self.energy;
         let prices = [
-            energy.critical,
-            energy.onpeak,
-            energy.offpeak,
-            energy.discount,
             self.demand,
             self.standby,
             self.bypass,
             self.credit,
             self.distribution,
         ];
-        some_over(PRICE_LIMIT, &prices)
+        some_over(PRICE_LIMIT, &energy.amounts())
+            || some_over(PRICE_LIMIT, &prices)
             || some_over(AMOUNT_LIMIT, &[self.basic, self.minimum])
             || prices_rise(energy)
     }

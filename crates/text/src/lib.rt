@@ -13,7 +13,8 @@ pub fn find(byte: u8, text: &[u8]) -> Option<usize>
     text.iter().position(|b| *b == byte)
 }
 
-// The place where a byte first stands, or the length of a text that doesn't have it.
+// The place where a byte first stands, or the length of a text that doesn't have it: for a reader that takes the bytes up to it in either case. Another one
+// asks `find`.
 pub fn place_of(byte: u8, text: &[u8]) -> usize
     ensures { result ≡ place_of byte text.now }
 {

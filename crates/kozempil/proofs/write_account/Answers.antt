@@ -14,4 +14,4 @@ returns c =
     stage
     c.write_terms.ensures
     c.write_prices.ensures
-    (rw (← c.from.ensures) c.write_at-2.ensures)
+    (rw (c.write_at-4.ensures, c.write_at-3.ensures, c.write_at-2.ensures, c.amounts.ensures, c.from.ensures))

@@ -16,8 +16,8 @@ pub loop-rest-preserved : goal.loop-rest-preserved
 loop-rest-preserved c = record {
   same_room = search rules;
   given = rw (take_rest c.loop-rest.rest.now c.feed-fed.result.taken)
-      (given_more c.loop-rest.verdict c.in_ok-verdict.verdict c.loop-rest.invariant.given c.feed-fed.ensures c.in_ok-verdict.ensures);
+      (given_more c.loop-rest.telling.verdict c.text.new.self.verdict c.loop-rest.invariant.given c.feed-fed.ensures c.in_ok-text.ensures);
 }
 
 pub returns : goal.returns
-returns c = given_all c.args.verdict c.loop-rest.verdict c.loop-rest.invariant.given (search rules)
+returns c = given_all c.args.telling.now.verdict c.loop-rest.telling.verdict c.loop-rest.invariant.given (search rules)

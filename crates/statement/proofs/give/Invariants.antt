@@ -7,7 +7,7 @@ use Rattle.statement.proofs.give.Given as goal
 abbrev pub invariant-loop-rest : goal.invariant-loop-rest
 invariant-loop-rest l = record {
   same_room : length l.out ≡ length l.initial.out;
-  given : GivenSoFar (so_far_of l.initial.session) (number_of l.fn.verdict) l.input l.rest (so_far_of l.session) (number_of l.verdict);
+  given : GivenSoFar (so_far_of l.initial.session) (number_of l.fn.telling.verdict) l.input l.rest (so_far_of l.session) (number_of l.telling.verdict);
 }
 
 abbrev pub decreases-loop-rest : goal.decreases-loop-rest

@@ -4,14 +4,14 @@ use Rattle.statement.proofs.Reaching.{reached_none, reached_more, reached_stop, 
 use Rattle.statement.proofs.print.Goals as goal
 
 pub loop-init : goal.loop-init
-loop-init c = reached_none _ c.start-session.ensures
+loop-init c = rw c.requires (reached_none _ c.start-session.ensures)
 
 pub returns-then-is_stopped : goal.returns-then-is_stopped
 returns-then-is_stopped c =
-    reached_stop (reached_more _ _ c.loop.invariant c.in_ok-verdict.ensures) (sym c.is_stopped.ensures ∙ c.if-is_stopped.true)
+    reached_stop (reached_more _ _ c.loop.invariant c.in_ok-give.ensures) (sym c.is_stopped.ensures ∙ c.if-is_stopped.true)
 
 pub loop-preserved : goal.loop-preserved
-loop-preserved c = reached_more _ _ c.loop.invariant c.in_ok-verdict.ensures
+loop-preserved c = reached_more _ _ c.loop.invariant c.in_ok-give.ensures
 
 pub returns : goal.returns
-returns c = reached_end _ _ c.loop.invariant c.finish.ensures
+returns c = reached_end _ _ c.loop.invariant c.in_ok-finish.ensures

@@ -2,5 +2,5 @@
 use Rattle.registers.proofs.Counting.{pair_known}
 use Rattle.registers.proofs.Roomy.add_pair.Goals as goal
 
-pub returns-then-pair : goal.returns-then-pair
-returns-then-pair c = rw (← c.if-entry-next_entry.true) (pair_known _ _ _ _ c.if-pair.true c.add_same_entry.ensures)
+pub returns-then-sum-from : goal.returns-then-sum-from
+returns-then-sum-from c = rw (← c.if-entry-next_entry.true) (pair_known _ _ _ _ (rw (c.sum.ensures, c.from.ensures) at c.if-sum-from.true) c.add_same_entry.ensures)

@@ -46,4 +46,4 @@ returns-then-out-lt-TABLE_ROOM c = put_short 2048 c.args.out.now c.if-out-lt-TAB
 pub returns : goal.returns
 returns c =
     put_long 2048 c.args.out.now c.if-out-lt-TABLE_ROOM.false
-    (rw (c.reason-reason.ensures.wrong, c.reason-reason.ensures.to_do) at (ends c.loop-byte.invariant c.loop-byte-test.false))
+    (rw (c.reason-reason.ensures.wrong, c.reason-reason.ensures.to_do, c.row_of.ensures) at (ends c.loop-byte.invariant c.loop-byte-test.false))
