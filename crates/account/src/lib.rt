@@ -91,7 +91,8 @@ fn faults_of(delivered: Tally, received: Tally, wrongdays: bool) -> Faults
     }
 }
 
-// The calls take an account by value and hand it back in the reply, as document 01 asks.
+// The calls take an account by value and hand it back in the reply, as document 01 asks. So each matches on its Result, and no `?` hands a refusal on: it has
+// the account beside it.
 impl Account {
     // The account that a list of calls starts from. Its terms stand in full, as in the definition: a derived default of terms would name a rider and a
     // class beside it.
@@ -181,7 +182,8 @@ impl Account {
         }
     }
 
-    // The bill of a month. Its readings are counted only where no row before theirs applies.
+    // The bill of a month. Its readings are counted only where no row before theirs applies. So the rows are asked twice: first with no fault, for those before
+    // the readings', then with the faults that are found. A function of the first rows alone would need a definition, and a law that joins the two.
     fn bill(
         self,
         month: u32,

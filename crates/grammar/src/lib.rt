@@ -4,6 +4,7 @@
 ghost use Rattle.std.specs.Prelude.{◌≡◌, ◌<◌, true, false, None, [], ◌∷◌, length, drop, IfSome, is_some, option_to_list, unwrap_or};
 ghost use Rattle.std.specs.Fn.{FnReturnsAt};
 ghost use Rattle.arrayvec.specs.ArrayVec.{array_vec_len};
+ghost use Rattle.numerals.specs.Numerals.{number_in};
 ghost use Rattle.numerals.specs.Reading.{items_of};
 ghost use Rattle.grammar.specs.Grammar.{begins_with, choice_in, keyed};
 ghost use Rattle.grammar.specs.Grammar.{opening_line, bill_line, critical_line, run_line};
@@ -64,6 +65,15 @@ fn word(line: &[u8], key: &[u8], first: &[u8], second: &[u8]) -> Option<ArrayVec
     keyed(line, key, |text| choice_in(text, first, second)).map(alone)
 }
 
+// A number after a key.
+#[tactic(auto, unfolding(crate::specs::Grammar::keyed))]
+fn number(line: &[u8], key: &[u8]) -> Option<ArrayVec<u32, MOST_NUMBERS>>
+    ensures value { items_of result ≡ keyed key.now number_in line.now }
+    ensures some { IfSome result (λ numbers. 0 < array_vec_len numbers) }
+{
+    keyed(line, key, numerals::number_in).map(alone)
+}
+
 // Line k + 1 of the fourteen that open the account. k is any number: a type of fourteen lines would ask more of callers, and a `TryFrom`
 // to it would be a second match of fourteen.
 #[tactic(auto, unfolding(crate::specs::Grammar::opening_line, crate::specs::Grammar::keyed))]
@@ -76,19 +86,19 @@ pub fn opening_line(k: u32, line: &[u8]) -> Option<ArrayVec<u32, MOST_NUMBERS>>
         1 => word(line, b"rider=", b"banked", b"bridge"),
         2 => word(line, b"class=", b"home", b"business"),
         3 => keyed(line, b"nameplate=", numerals::numbers_up_to),
-        4 => keyed(line, b"limit=", numerals::number_in).map(alone),
+        4 => number(line, b"limit="),
         5 => word(line, b"assisted=", b"no", b"yes"),
         6 => {
             let prices = keyed(line, b"prices=", numerals::numbers_in::<4>)?;
             ArrayVec::try_from(prices.as_slice()).ok()
         }
-        7 => keyed(line, b"demand=", numerals::number_in).map(alone),
-        8 => keyed(line, b"standby=", numerals::number_in).map(alone),
-        9 => keyed(line, b"bypass=", numerals::number_in).map(alone),
-        10 => keyed(line, b"credit=", numerals::number_in).map(alone),
-        11 => keyed(line, b"distribution=", numerals::number_in).map(alone),
-        12 => keyed(line, b"basic=", numerals::number_in).map(alone),
-        13 => keyed(line, b"minimum=", numerals::number_in).map(alone),
+        7 => number(line, b"demand="),
+        8 => number(line, b"standby="),
+        9 => number(line, b"bypass="),
+        10 => number(line, b"credit="),
+        11 => number(line, b"distribution="),
+        12 => number(line, b"basic="),
+        13 => number(line, b"minimum="),
         _ => None,
     }
 }

@@ -1,4 +1,5 @@
 mod Days
 mod Storing
+pub mod Chunks
 pub mod Laws
 pub mod Packed

@@ -9,11 +9,13 @@ use borrow.Author.Tests.{ltb-true, ltb-false}
 use lib.Dec.{ltb}
 use lib.ListN.{length, get_or, get_or-append, length-append, set, take, drop}
 use lib.Seq.{get_or-append_right}
+use Rattle.std.specs.Simd.{first_chunks}
 use Rattle.std.proofs.lemmas.Bool.{and_parts}
 use Rattle.std.proofs.lemmas.Grind.{same_number_lists}
 use Rattle.std.proofs.lemmas.List.{get_or-take, get_or-drop, get_or-set_same, get_or-set_other}
 use Rattle.hours.specs.Packing.{byte_at, entry_of, unpacked}
-use Rattle.hours.specs.Schedules.{is_entry, all_entries, word_from, words_from, packed}
+use Rattle.hours.specs.Schedules.{schedule_length, is_entry, all_entries, word_from, words_from, packed}
+use Rattle.hours.proofs.Chunks.{chunk_at}
 use Rattle.hours.proofs.Packed.{word_of_words}
 
 unpacked_length : (words : List ℕ) (n : ℕ) → length (unpacked words n) ≡ 4 * n
@@ -99,9 +101,13 @@ unfolding word_from
 part_from s n i zero h = refl
 part_from s n i (suc k) h = rw (get_or-take 32 (drop n s) i 0 (omega arith), get_or-drop n s i 0, part_from s n (suc i) k (omega arith), add-suc n i)
 
--- The entries of word w are a part of the schedule.
-pub part_entries : (s : List ℕ) (n : ℕ) → all_entries s ≡ true → all_entries (take 32 (drop n s)) ≡ true
-part_entries s n good = take_entries 32 (drop n s) (drop_entries n s good)
+-- The entries of word w are part w of the schedule.
+module _ (s : List ℕ) (parts : List (List ℕ)) (long : length s ≡ schedule_length) (e : parts ≡ first_chunks 32 (length s / 32) s) (w : ℕ) (h : w < 12) where
+  part_is : get_or parts w [] ≡ take 32 (drop (32 * w) s)
+  part_is = rw e (chunk_at 32 (length s / 32) w s (omega arith))
 
-pub part_word : (s : List ℕ) (n : ℕ) → word_from (take 32 (drop n s)) 0 32 ≡ word_from s n 32
-part_word s n = rw add-zero at (part_from s n 0 32 (omega arith))
+  pub part_entries : all_entries s ≡ true → all_entries (get_or parts w []) ≡ true
+  part_entries good = rw part_is (take_entries 32 (drop (32 * w) s) (drop_entries (32 * w) s good))
+
+  pub part_word : word_from (get_or parts w []) 0 32 ≡ word_from s (32 * w) 32
+  part_word = rw part_is (rw add-zero at (part_from s (32 * w) 0 32 (omega arith)))

@@ -30,10 +30,12 @@ pub const SCHEDULE_LENGTH: usize = 384;
 // The words of a packed schedule.
 pub const PACKED_LENGTH: usize = 12;
 
-// The most critical days that a month may have.
+// The most critical days that a month may have. The days are a number, bit 0 for day 1, as a caller in C lends them: any number is one, and std has what is
+// asked of it.
 const MOST_CRITICAL_DAYS: u32 = 10;
 
-// Four amounts, one for each period.
+// Four amounts, one for each period. Four fields and no array: the steps of document 01 and the definitions (`four`, `by_period`) name each, and stay word for
+// word. So what is done for each period stands four times, here and above.
 #[derive(Clone, Copy, PartialEq, Eq, Default, Debug)]
 pub struct ByPeriod {
     pub critical: u64,
@@ -43,7 +45,7 @@ pub struct ByPeriod {
 }
 
 impl ByPeriod {
-    // The amounts, dearest period first.
+    // The amounts, dearest period first. A method and no `From`, which would not say what the numbers are.
     pub fn amounts(self) -> [u64; 4]
         ensures { result ≡ four self [] }
     {
@@ -62,8 +64,8 @@ impl ByPeriod {
     }
 }
 
-// What decides the periods of a day: where its row starts in a schedule, and whether it is critical. The row is a place in the one list of entries, which is
-// lent whole, and no list of its own.
+// What decides the periods of a day: where its row starts in a schedule, and whether it is critical. A place and no slice: `day_hours` takes no schedule, and
+// the definition reads entry row + quarter of the whole list, so that a slice would need a law that its entries are those.
 #[derive(Clone, Copy, PartialEq, Eq, Debug)]
 pub struct DayHours {
     pub row: usize,
@@ -87,7 +89,8 @@ fn entry_of(byte: u8, k: u32) -> u8
     (byte >> (2 * k)) & 3
 }
 
-// The entries of a packed schedule, one to a byte.
+// The entries of a packed schedule, one to a byte. Not by `from_fn`: its contract is a chain of as many facts as there are entries, and with 384 the proof didn't
+// close.
 fn unpack(words: &[u64; PACKED_LENGTH]) -> [u8; SCHEDULE_LENGTH]
     ensures { result ≡ unpacked words.now 96 }
 {
@@ -122,9 +125,8 @@ pub fn schedule_refused(schedule: &[u8]) -> bool
 }
 
 // The word of 32 entries. From the last to the first, which so comes to stand lowest.
-fn word_of(entries: &[u8]) -> u64
-    requires word_length { length entries.now ≡ 32 }
-    requires entries { all_entries entries.now ≡ true }
+fn word_of(entries: &[u8; 32]) -> u64
+    requires { all_entries entries.now ≡ true }
     ensures { result ≡ word_from entries.now 0 32 }
 {
     let mut word = 0;
@@ -140,10 +142,11 @@ fn words_of(schedule: &[u8]) -> [u64; PACKED_LENGTH]
     requires entries { all_entries schedule.now ≡ true }
     ensures { result ≡ packed schedule.now }
 {
+    let (parts, _) = schedule.as_chunks();
     let mut words = [0; PACKED_LENGTH];
-    // By place, for which parts by `as_chunks` would be asked too: after `iter_mut().zip` nothing is known of what was written.
-    for (w, word) in words.iter_mut().enumerate() {
-        *word = word_of(&schedule[32 * w..32 * w + 32]);
+    // By place: nothing is known of what a loop over `words.iter_mut().zip(parts)` wrote.
+    for (w, part) in parts.iter().enumerate() {
+        words[w] = word_of(part);
     }
     words
 }

@@ -1,4 +1,4 @@
--- An account's row, part by part: how it is written, that it is known to be an account, and that it is read back as that account.
+-- An account's row, part by part: that it is known to be an account, and that it is read back as that account.
 use mathlib.Core.Path.{◌≡◌, refl}
 use mathlib.Core.Bool.{true}
 use mathlib.Core.List.{List, [], ◌∷◌, ◌++◌, append_assoc}
@@ -7,7 +7,6 @@ use native.Mathlib.Omega.{arith}
 use borrow.Author.Tests.{lt-ltb}
 use lib.Dec.{leb}
 use lib.ListN.{length, get_or, length-append}
-use lib.Seq.{sets}
 use Rattle.hours.specs.Hours.{four}
 use Rattle.tariff.specs.Tariff.{most_nameplates}
 use Rattle.account.specs.declared.Stage.{Stage}
@@ -16,7 +15,6 @@ use Rattle.account.specs.declared.Account.{Account}
 use Rattle.account.specs.Codes.{stage_code, stage_at}
 use Rattle.records.specs.Sections.{terms_numbers, terms_at, known_terms, prices_numbers, prices_at}
 use Rattle.records.proofs.Sections.{later, terms_long, terms_back, terms_known, prices_long, prices_back}
-use Rattle.text.proofs.Lists.{sets-append}
 use Rattle.kozempil.specs.Interface.{account_row, is_account, account_at}
 use Rattle.kozempil.specs.Interface.{stage_place, terms_place, prices_place, next_place, account_length}
 
@@ -73,22 +71,6 @@ module _ (a : Account) where
   stage_here : get_or (account_row a) stage_place 0 ≡ stage_code a.stage
   unfolding account_row
   stage_here = refl
-
-  -- The row is written part by part.
-  pub row_written : (b c d e f : List ℕ) → c ≡ sets b 0 stage → d ≡ sets c terms_place terms → e ≡ sets d prices_place prices
-      → f ≡ sets e next_place rest → f ≡ sets b 0 (account_row a)
-  unfolding account_row
-  row_written b c d e f p q r s =
-      rw (
-        s,
-        r,
-        q,
-        p,
-        sets-append b 0 (stage ++ terms ++ prices) rest,
-        before_next,
-        sets-append b 0 (stage ++ terms) prices,
-        before_prices,
-      )
 
 -- What is written of an account is read back as that one. The terms of every account have eight places for nameplates in the code,
 read_back : (a : Account) → length a.terms.nameplates ≡ most_nameplates → account_at (account_row a) ≡ a

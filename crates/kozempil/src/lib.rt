@@ -34,16 +34,27 @@ const STANDING_PLACE: usize = CARRIED_PLACE + 4;
 
 const ACCOUNT: usize = STANDING_PLACE + 1;
 
-// Writes the row of an account.
-fn write_account(buffer: &mut [u64], account: Account)
-    ensures { buffer.new ≡ sets buffer.old 0 (account_row account) }
+// The row of an account.
+#[tactic(auto, unfolding(crate::specs::Interface::account_row, records::specs::Sections::terms_numbers, records::specs::Sections::prices_numbers))]
+fn account_row(account: Account) -> [u64; ACCOUNT]
+    ensures { result ≡ account_row account }
 {
-    text::write_at(buffer, STAGE_PLACE, &[account.stage as u64]);
-    records::write_terms(buffer, TERMS_PLACE, account.terms);
-    records::write_prices(buffer, PRICES_PLACE, account.prices);
-    text::write_at(buffer, NEXT_PLACE, &[u64::from(account.next)]);
-    text::write_at(buffer, CARRIED_PLACE, &account.carried.amounts());
-    text::write_at(buffer, STANDING_PLACE, &[account.standing]);
+    let mut row = [0; ACCOUNT];
+    row[STAGE_PLACE] = account.stage as u64;
+    text::write_at(
+        &mut row,
+        TERMS_PLACE,
+        &records::terms_numbers(account.terms),
+    );
+    text::write_at(
+        &mut row,
+        PRICES_PLACE,
+        &records::prices_numbers(account.prices),
+    );
+    row[NEXT_PLACE] = u64::from(account.next);
+    text::write_at(&mut row, CARRIED_PLACE, &account.carried.amounts());
+    row[STANDING_PLACE] = account.standing;
+    row
 }
 
 // How many calls of a list are answered, and how many rows of answers are written whole.
@@ -66,7 +77,7 @@ pub extern "C" fn kozempil_run(
     ensures { ListAnswered (calls_in calls.now delivered.now received.now) answers.old answers.new account.old account.new result }
 {
     let ran = ledger::run(Account::fresh(), calls, delivered, received, answers);
-    write_account(account, ran.account);
+    text::write_at(account, 0, &account_row(ran.account));
     Counts {
         answered: ran.answered,
         written: ran.written,
@@ -118,7 +129,7 @@ pub extern "C" fn kozempil_call(
     };
     let row = records::row_of(answered.answer);
     text::write_at(answer, 0, &row);
-    write_account(after, answered.account);
+    text::write_at(after, 0, &account_row(answered.account));
     1
 }
 

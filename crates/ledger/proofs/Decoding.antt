@@ -1,9 +1,9 @@
 -- How records are read one after the other: a record that is a call takes its readings from the front of what is left of the registers.
-use Rattle.std.proofs.Common.{◌≡◌, ◌∙◌, sym, refl, ℕ, zero, suc, ◌+◌, ◌*◌, ◌≤◌, ◌<◌, ◌/◌, true, false, List, [], ◌∷◌, length, take, drop, slice_index_or, arith, length-drop}
+use Rattle.std.proofs.Common.{◌≡◌, sym, ℕ, suc, ◌+◌, ◌*◌, ◌≤◌, ◌<◌, ◌/◌, true, false, List, [], ◌∷◌, length, take, drop, slice_index_or, arith, length-drop}
 use Rattle.std.proofs.lemmas.List.{drop-drop}
 use Rattle.std.specs.Simd.{first_chunks}
 use Rattle.records.specs.Records.{record_length, delivered_place, received_place, count_at, is_call}
-use Rattle.registers.proofs.Pairs.{chunk_at}
+use Rattle.hours.proofs.Chunks.{chunk_at}
 use Rattle.ledger.specs.Encoding.{call_of, decode, calls_in}
 
 module _ (ws delivered received : List ℕ) where

@@ -2,21 +2,20 @@
 use mathlib.Core.Path.{◌≡◌, refl, sym, ◌∙◌, subst}
 use mathlib.Core.Bool.{Bool, true, false}
 use mathlib.Core.List.{List, [], ◌∷◌}
-use mathlib.Core.Logic.{⊎_elim}
-use Prim.Native.Nat.{ℕ, ◌+◌, ◌-◌, ◌<◌, ◌≤◌, min}
+use Prim.Native.Nat.{ℕ, ◌<◌}
 use native.Mathlib.Omega.{arith}
 use borrow.Author.Tests.{eq-eqb, ne_eqb}
 use lib.Dec.{eqb}
-use lib.ListN.{length, take, drop, drop_of_length-le}
-use Rattle.std.proofs.lemmas.Bool.{cases_lt}
+use lib.ListN.{length, drop}
 use Rattle.std.specs.Prelude.{Option, None, Some, Result}
 use Rattle.std.specs.Prelude.Result.{Ok, Err}
-use Rattle.std.specs.Option.{MatchOption, ok_or}
+use Rattle.std.proofs.Common.{Bor}
+use Rattle.std.specs.Option.{MatchOption, ok_or, unwrap_or}
 use Rattle.std.specs.Result.{IsErr}
 use Rattle.std.specs.Bool.{then_some}
-use Rattle.text.specs.Text.{bytes_of, place_of, lines_from}
-use Rattle.text.proofs.Laws.{first_line}
-use Rattle.std.proofs.lemmas.List.{take_rest}
+use Rattle.text.specs.Text.{bytes_of, lines_from}
+use Rattle.text.specs.Splitting.{Whole, Split}
+use Rattle.text.proofs.Laws.{first_line, line_last}
 use Rattle.grammar.specs.Grammar.{keyed}
 use Rattle.loading.specs.Loading.{periods_in, schedule_lines, all_good, all_given, load_refused, load_number, table_after}
 use Rattle.loading.specs.Reading.{RowRefused, RowRead, RowsRefused, RowsRead}
@@ -30,32 +29,27 @@ row_none key [] h reads = refl
 row_none key (b ∷ text) h reads = absurd (omega arith)
 
 -- or its first one is bad or good by a key.
-module _ (key text : List ℕ) (end : ℕ) (some : 0 < length text) (e : end ≡ place_of 10 text) where
-  first : lines_from [] text ≡ take end text ∷ lines_from [] (drop (end + 1) text)
-  first = rw e (first_line [] text (omega arith))
-
-  pub row_bad : keyed key periods_in (take end text) ≡ [] → RowRefused key text
+module _ (key text line rest : List ℕ) (first : lines_from [] text ≡ line ∷ lines_from [] rest) where
+  pub row_bad : keyed key periods_in line ≡ [] → RowRefused key text
   unfolding all_good
   row_bad f reads = rw (first, f)
 
-  pub row_good : (row rest : List ℕ) → keyed key periods_in (take end text) ≡ row → length row ≡ 96 → rest ≡ drop (end + 1) text → RowRead key text row rest
+  pub row_good : (row : List ℕ) → keyed key periods_in line ≡ row → length row ≡ 96 → RowRead key text row rest
   unfolding all_good all_given
-  row_good row rest f n r =
+  row_good row f n =
       record {
-        good = λ reads. rw (first, f, ne_eqb (length row) 0 (λ z. omega arith), r);
-        given = λ reads. rw (first, f, r);
+        good = λ reads. rw (first, f, ne_eqb (length row) 0 (λ z. omega arith));
+        given = λ reads. rw (first, f);
       }
 
--- What is behind the first line.
-pub behind : (text : List ℕ) (end m : ℕ) → m ≡ min (length text) (end + 1) → take (length text - m) (drop m text) ≡ drop (end + 1) text
-behind text end m e = take_rest text m ∙ ⊎_elim inside past (cases_lt end (length text))
-  where
-    inside : end < length text → drop m text ≡ drop (end + 1) text
-    inside h = let same : m ≡ end + 1 = omega arith in rw same
-
-    past : length text ≤ end → drop m text ≡ drop (end + 1) text
-    past h = let same : m ≡ length text = omega arith in
-        rw (same, drop_of_length-le text {i = length text} (omega arith), drop_of_length-le text {i = end + 1} (omega arith))
+-- The first one ends at a newline, or where the text ends: then an empty text is behind it.
+pub first_found : (text empty : Bor (List ℕ)) (o : Option (Bor (List ℕ) × Bor (List ℕ))) (read : Bor (List ℕ) × Bor (List ℕ))
+    → 0 < length text.now → read ≡ unwrap_or o (text, empty) → empty.now ≡ []
+    → MatchOption o (Whole 10 text.now) (λ parts. Split 10 text.now parts.0.now parts.1.now)
+    → lines_from [] text.now ≡ read.0.now ∷ lines_from [] read.1.now
+unfolding lines_from
+first_found text empty None read h is e whole = rw (is, e) (line_last text.now whole h)
+first_found text empty (Some parts) read h is e split = rw (is, split.before, split.behind) (first_line [] text.now (omega (arith, split.within)))
 
 -- No line is left where nothing of a text is.
 end_good : (text : List ℕ) → all_good [] (lines_from [] text) ≡ eqb (length text) 0

@@ -34,17 +34,16 @@ fn periods_in(digits: &[u8]) -> Option<[u8; QUARTERS]>
     Some(digits.map(|digit| digit - b'0'))
 }
 
-// The row that the first line of a text gives by its key, and the text behind that line. Where no newline ends the line, it is the text up to its length, as it
-// is up to a newline: so no Option is asked.
+// The row that the first line of a text gives by its key, and the text behind that line. Where no newline ends the line, it is the whole text.
 fn row_in<'a>(text: &'a [u8], key: &[u8]) -> Option<([u8; QUARTERS], &'a [u8])>
     ensures { MatchOption result (RowRefused key.now text.now) (λ read. RowRead key.now text.now read.0 read.1.now) }
 {
     if text.is_empty() {
         return None;
     }
-    let end = text::place_of(b'\n', text);
-    let row = periods_in(grammar::after_key(&text[..end], key)?)?;
-    Some((row, &text[text.len().min(end + 1)..]))
+    let (line, rest) = text::split_once(b'\n', text).unwrap_or((text, &[]));
+    let row = periods_in(grammar::after_key(line, key)?)?;
+    Some((row, rest))
 }
 
 // The rows that the lines of a text give, if there are four good ones and no more.

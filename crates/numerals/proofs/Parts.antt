@@ -2,15 +2,15 @@
 use mathlib.Core.Path.{◌≡◌, refl, sym, ap, ◌∙◌}
 use mathlib.Core.Bool.{Bool, true, false, false≢true, cond, ◌&&◌}
 use mathlib.Core.List.{List, [], ◌∷◌, ◌++◌, map, append_assoc}
-use Prim.Native.Nat.{ℕ, zero, suc, ◌+◌, ◌-◌, ◌≤◌, ◌<◌}
+use Prim.Native.Nat.{ℕ, zero, suc, ◌+◌, ◌≤◌, ◌<◌}
 use native.Mathlib.Numerals.{add-one}
 use native.Mathlib.Omega.{arith}
 use borrow.Author.Tests.{eqb-true, leb-true, leb-false, le-leb}
 use lib.Dec.{eqb, leb}
 use lib.ListN.{length, take, drop, length-map, length-append, length-drop}
 use Rattle.text.specs.Text.{place_of}
+use Rattle.text.specs.Splitting.{Whole, Split}
 use Rattle.numerals.specs.Numerals.{value_of, is_number, on_first, parts_of, all_numbers, numbers_in, numbers_up_to}
-use Rattle.std.proofs.lemmas.List.{take_rest}
 
 pub on_first_count : (b : ℕ) (ps : List (List ℕ)) → length (on_first b ps) ≡ length ps
 on_first_count b [] = refl
@@ -89,28 +89,25 @@ module _ {text xs rest : List ℕ} (r : Read text xs rest) where
   read_full n e = up_to_many n text (omega (arith, r.count, parts_some rest))
 
   -- What stands before a comma is no number, or one.
-  module _ (k : ℕ) (e : k ≡ place_of 44 rest) (h : k < length rest) where
-    parts_are : parts_of rest ≡ take k rest ∷ parts_of (drop (k + 1) rest)
-    parts_are = rw (e, add-one) (parts_more rest (omega (arith, e)))
+  module _ {number behind : List ℕ} (s : Split 44 rest number behind) where
+    parts_are : parts_of rest ≡ number ∷ parts_of behind
+    parts_are = rw (s.before, s.behind, add-one) (parts_more rest s.within)
 
-    pub read_bad : (n : ℕ) → is_number (take k rest) ≡ false → numbers_up_to n text ≡ []
+    pub read_bad : (n : ℕ) → is_number number ≡ false → numbers_up_to n text ≡ []
     unfolding all_numbers
     read_bad n f = up_to_bad n text (r.numbers ∙ rw (parts_are, f))
 
-    pub read_more : (v : ℕ) → is_number (take k rest) ≡ true → v ≡ value_of (take k rest)
-        → Read text (xs ++ v ∷ []) (take (length rest - (k + 1)) (drop (k + 1) rest))
+    pub read_more : (v : ℕ) → is_number number ≡ true → v ≡ value_of number → Read text (xs ++ v ∷ []) behind
     unfolding all_numbers
-    read_more v f is =
-        rw (take_rest rest (k + 1))
-        (record {
-          count = r.count ∙ rw (parts_are, length-append) (omega arith);
-          numbers = r.numbers ∙ rw (parts_are, f);
-          values = r.values ∙ rw (parts_are, append_assoc, is);
-          within = omega (arith, r.within, length-drop (k + 1) rest);
-        })
+    read_more v f is = record {
+      count = r.count ∙ rw (parts_are, length-append) (omega arith);
+      numbers = r.numbers ∙ rw (parts_are, f);
+      values = r.values ∙ rw (parts_are, append_assoc, is);
+      within = omega (arith, r.within, s.within, ap length s.behind, length-drop (place_of 44 rest + 1) rest);
+    }
 
   -- Likewise where no comma is left.
-  module _ (e : place_of 44 rest ≡ length rest) where
+  module _ (e : Whole 44 rest) where
     pub last_bad : (n : ℕ) → is_number rest ≡ false → numbers_up_to n text ≡ []
     unfolding all_numbers
     last_bad n f = up_to_bad n text (r.numbers ∙ rw (parts_last rest e, f))

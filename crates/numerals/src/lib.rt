@@ -65,9 +65,9 @@ pub fn numbers_up_to<const N: usize>(text: &[u8]) -> Option<ArrayVec<u32, N>>
     let mut numbers = ArrayVec::new();
     // By what is left and not by `split`, whose loop the check can't read in a function with a const parameter.
     let mut rest = text;
-    while let Some(comma) = text::find(b',', rest) {
-        numbers.try_push(number_in(&rest[..comma])?).ok()?;
-        rest = &rest[comma + 1..];
+    while let Some((number, behind)) = text::split_once(b',', rest) {
+        numbers.try_push(number_in(number)?).ok()?;
+        rest = behind;
     }
     numbers.try_push(number_in(rest)?).ok()?;
     Some(numbers)

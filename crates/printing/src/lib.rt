@@ -77,7 +77,8 @@ pub fn put_bill(out: &mut [u8], month: u32, number: u32, bill: Bill) -> usize
         bill.left.amounts(),
     ];
     let money = [bill.charges.energy, bill.charges.due];
-    // One number for each mark of the template, in its order.
+    // One number for each mark of the template, in its order. Copied to their places: as a chain of iterators, the contract of `put_text` would have to say
+    // which numbers that yields; by an `ArrayVec` each part would answer whether it fits, and it always does.
     let mut numbers = [0; 34];
     text::write_at(&mut numbers, 0, &head);
     text::write_at(&mut numbers, 4, rows.as_flattened());

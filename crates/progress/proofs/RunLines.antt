@@ -6,10 +6,11 @@ use Prim.Native.Nat.{ℕ, zero, suc, ◌+◌, ◌-◌, ◌≤◌, ◌<◌}
 use native.Mathlib.Omega.{arith}
 use borrow.Author.Tests.{leb-true, le-leb, lt-leb, eqb-true, eqb-false, eq-eqb, ne_eqb}
 use lib.Dec.{eqb, leb}
-use lib.ListN.{length, get_or, take, drop, length-drop}
+use lib.ListN.{length, get_or, drop, length-drop}
 use Rattle.std.specs.Prelude.{Option, Some, None, is_some, OnSome, IfNone}
 use Rattle.std.proofs.lemmas.List.{nil_from_length}
 use Rattle.text.specs.Text.{place_of}
+use Rattle.text.specs.Splitting.{Whole, Split}
 use Rattle.grammar.specs.Grammar.{run_line, bill_line}
 use Rattle.progress.specs.declared.readings.Run.{Run}
 use Rattle.progress.specs.declared.readings.Readings.{Readings}
@@ -101,24 +102,15 @@ module _ (l : List ℕ) (s : State) where
     later_month n k = later_bill l s n (none_numbers l h) k
 
 -- The run line at the front of an input.
-pub first_absent : (l : List ℕ) → length l ≡ place_of 10 l → NoRun l
+pub first_absent : (l : List ℕ) → Whole 10 l → NoRun l
 unfolding is_run
-first_absent l h n = rw (eq-eqb (place_of 10 l) (length l) (sym h))
+first_absent l h n = rw (eq-eqb (place_of 10 l) (length l) h)
 
-module _ (l : List ℕ) (p : ℕ) (at : p ≡ place_of 10 l) (some : p < length l) where
-  pub first_not : None ≡ run_of (take p l) → NoRun l
-  unfolding is_run
-  first_not e n =
-      let none = none_numbers (line_at l) (e ∙ ap (λ (k : ℕ). run_of (take k l)) at) in
-      rw (ne_eqb (place_of 10 l) (length l) (λ h. omega arith), eq-eqb (length (run_line (line_at l))) 0 (ap length (sym none)))
-
-  pub first_is : (run : Run) (rest : List ℕ) → Some run ≡ run_of (take p l) → rest ≡ drop (p + 1) l → FirstRun l run rest
-  first_is run rest e r =
-      record {
-        newline = omega arith;
-        reads = e ∙ ap (λ (k : ℕ). run_of (take k l)) at;
-        behind = r ∙ ap (λ (k : ℕ). drop (k + 1) l) at;
-      }
+pub first_not : {l line rest : List ℕ} → Split 10 l line rest → None ≡ run_of line → NoRun l
+unfolding is_run
+first_not {l = l} s e n =
+    let none = none_numbers (line_at l) (e ∙ ap run_of s.before) in
+    rw (ne_eqb (place_of 10 l) (length l) (λ h. omega (arith, s.within)), eq-eqb (length (run_line (line_at l))) 0 (ap length (sym none)))
 
 -- Where there is one, it is taken if it fits.
 module _ (l : List ℕ) (first : Run) (rest : List ℕ) (w : FirstRun l first rest) (n : ℕ) where

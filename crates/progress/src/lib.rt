@@ -62,9 +62,8 @@ fn run_in(line: &[u8]) -> Option<Run>
 fn first_run(input: &[u8]) -> Option<(Run, &[u8])>
     ensures { MatchOption result (NoRun input.now) (λ first. FirstRun input.now first.0 first.1.now) }
 {
-    let end = text::find(b'\n', input)?;
-    let run = run_in(&input[..end])?;
-    Some((run, &input[end + 1..]))
+    let (line, rest) = text::split_once(b'\n', input)?;
+    Some((run_in(line)?, rest))
 }
 
 impl Text {

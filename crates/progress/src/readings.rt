@@ -14,7 +14,8 @@ pub struct Run {
 }
 
 // The readings stand at the front of two registers. Past them stands what was left there. No `ArrayVec`s: the contracts of a session say what the registers
-// hold past the readings, and an `ArrayVec` says nothing of that.
+// hold past the readings, and an `ArrayVec` says nothing of that. Two arrays under one count, and no array of pairs: billing takes each register as a slice
+// of its own, as document 01 lends them.
 #[derive(Drop)]
 pub struct Readings {
     delivered: [u32; MOST_READINGS],
@@ -57,7 +58,8 @@ impl Readings {
         &self.received[..self.count]
     }
 
-    // Stores a run behind the others, where a month has so many readings. None is a fault, as everywhere in this crate.
+    // Stores a run behind the others, where a month has so many readings. An Option and no Result: `?` passes it on among those of `grammar`'s readers, and
+    // there is nothing to tell but that the run doesn't fit. What that means its callers know: a fault in `read_run`, an end in `read_runs`.
     pub(crate) fn add(&mut self, run: Run) -> Option<()>
         ensures added { OnSome result (Adds self.old run self.new) }
         ensures refused { IfNone result (Refuses self.old run self.new) }

@@ -1,9 +1,8 @@
-// What a call's record says, and the numbers of an answer's row. A section of a record or row, as terms or a price list, is read and
-// written from any place on.
+// What a call's record says, and the numbers of an answer's row. A section of a record or row, as terms or a price list, is read from any place
+// on, and its numbers are an array, which the caller writes where it belongs.
 #![tactic(auto)]
 
 ghost use Rattle.std.specs.Prelude.{◌≡◌, [], ◌+◌, get_or, take, drop};
-ghost use Rattle.std.proofs.lemmas.List.Edits.{sets};
 ghost use Rattle.tariff.specs.Tariff.{eight_at};
 ghost use Rattle.records.specs.Sections.{yes_code, four_at, nameplates_place};
 ghost use Rattle.records.specs.Sections.{terms_numbers, terms_at, prices_numbers, prices_at};
@@ -118,8 +117,8 @@ fn yes_of(code: u64) -> Option<bool>
 }
 
 // The number at a place counted from another one, or 0 past the record's end, as in all that is read here. A list and a place in it go together through all
-// sections, as in the definitions (`terms_at w place`): with a slice, each caller would make the empty one itself, and a law would be needed that what stands
-// behind a place is read alike.
+// sections that are read, as in the definitions (`terms_at w place`): with a slice, each caller would make the empty one itself, and a law would be needed
+// that what stands behind a place is read alike.
 pub fn number_from(words: &[u64], start: usize, place: usize) -> u64
     ensures { result ≡ get_or words.now (start + place) 0 }
 {
@@ -267,7 +266,7 @@ pub fn readings_taken(said: u64, register: &[u32]) -> (&[u32], &[u32])
     register.split_at(said.min(register.len() as u64) as usize)
 }
 
-// The money lines of a bill.
+// The money lines of a bill. A function and no `From`, since neither the charges nor an array is a type of this crate.
 fn lines_of(charges: Charges) -> [u64; LINES_LENGTH]
     ensures { result ≡ lines charges [] }
 {
@@ -316,10 +315,10 @@ pub fn row_of(answer: Answer) -> [u64; ROW]
     row
 }
 
-// Writes terms from a place on; what doesn't fit is left out.
-#[tactic(auto, unfolding(crate::specs::Sections::terms_numbers))]
-pub fn write_terms(buffer: &mut [u64], place: usize, terms: Terms)
-    ensures { buffer.new ≡ sets buffer.old place (terms_numbers terms) }
+// The numbers of terms.
+#[tactic(auto, using(tariff::proofs::Laws::eight_back), unfolding(crate::specs::Sections::terms_numbers))]
+pub fn terms_numbers(terms: Terms) -> [u64; TERMS_LENGTH]
+    ensures { result ≡ terms_numbers terms }
 {
     let mut numbers = [0; TERMS_LENGTH];
     text::write_at(
@@ -333,13 +332,13 @@ pub fn write_terms(buffer: &mut [u64], place: usize, terms: Terms)
         LIMIT_PLACE,
         &[terms.limit, u64::from(terms.assisted)],
     );
-    text::write_at(buffer, place, &numbers);
+    numbers
 }
 
-// Writes a price list from a place on; what doesn't fit is left out.
+// The numbers of a price list.
 #[tactic(auto, unfolding(crate::specs::Sections::prices_numbers))]
-pub fn write_prices(buffer: &mut [u64], place: usize, prices: PriceList)
-    ensures { buffer.new ≡ sets buffer.old place (prices_numbers prices) }
+pub fn prices_numbers(prices: PriceList) -> [u64; PRICES_LENGTH]
+    ensures { result ≡ prices_numbers prices }
 {
     let others = [
         prices.demand,
@@ -353,5 +352,5 @@ pub fn write_prices(buffer: &mut [u64], place: usize, prices: PriceList)
     let mut numbers = [0; PRICES_LENGTH];
     text::write_at(&mut numbers, 0, &prices.energy.amounts());
     text::write_at(&mut numbers, 4, &others);
-    text::write_at(buffer, place, &numbers);
+    numbers
 }

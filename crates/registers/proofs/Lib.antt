@@ -1,7 +1,7 @@
 mod Counting
+mod Pairs
 pub mod Gaps
 pub mod HalfHours
 pub mod Laws
-pub mod Pairs
 pub mod Totals
 pub mod View

@@ -1,19 +1,12 @@
--- Lists in parts of n, and stretches in pairs, read by place.
-use mathlib.Core.Path.{◌≡◌, ap, sym, ◌∙◌}
+-- A stretch in pairs, read by place.
+use mathlib.Core.Path.{◌≡◌, ap, sym}
 use mathlib.Core.List.{List, [], ◌∷◌}
 use Prim.Native.Nat.{ℕ, zero, suc, ◌+◌, ◌-◌, ◌*◌, ◌<◌}
-use native.Mathlib.Nat.{mul-zero, mul-suc, add_comm}
 use native.Mathlib.Omega.{arith}
 use lib.ListN.{length, get_or, take, drop}
-use lib.Seq.{drop-drop}
 use Rattle.std.proofs.lemmas.List.{get_or-take, get_or-drop}
 use Rattle.std.specs.Simd.{first_chunks}
-
--- Part i of the first k.
-pub chunk_at : {X : Type 0} (n k i : ℕ) (xs : List X) → i < k → get_or (first_chunks n k xs) i [] ≡ take n (drop (n * i) xs)
-chunk_at n zero i xs h = absurd (omega arith)
-chunk_at n (suc k) zero xs h = rw mul-zero
-chunk_at n (suc k) (suc i) xs h = chunk_at n k i (drop n xs) (omega arith) ∙ rw (drop-drop (n * i) n xs, mul-suc n i, add_comm n (n * i))
+use Rattle.hours.proofs.Chunks.{chunk_at}
 
 -- Number j of pair i of a stretch from place a to place b.
 pub pair_at : (s : List ℕ) (a b k i j : ℕ) → i < k → j < 2 → a + (2 * i + j) < b

@@ -119,9 +119,9 @@ impl Count {
         let counted = counts_after(self.last, reading);
         Count {
             sums: plus(self.sums, period, u64::from(counted)),
-            largest: self.largest,
             above: self.above | (READING_LIMIT < counted),
             last: counted,
+            ..self
         }
     }
 }
@@ -149,17 +149,12 @@ impl Roomy {
         requires { pair.reading + pair.next ≤ reading_limit }
         ensures { AddedPair self.so_far period period pair.reading pair.next result }
     {
-        let Count {
-            sums,
-            largest,
-            above,
-            ..
-        } = self.so_far;
+        let count = self.so_far;
         Count {
-            sums: plus(sums, period, pair.sum()),
-            largest: largest.max(pair.counting_sum(period, period)),
-            above,
+            sums: plus(count.sums, period, pair.sum()),
+            largest: count.largest.max(pair.counting_sum(period, period)),
             last: pair.next,
+            ..count
         }
     }
 

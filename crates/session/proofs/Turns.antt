@@ -6,8 +6,9 @@ use Prim.Native.Nat.{ℕ, zero, suc, ◌+◌, ◌<◌}
 use native.Mathlib.Omega.{arith}
 use lib.Dec.{eqb}
 use lib.ListN.{length, take}
-use lib.Seq.{take_all}
+use lib.Seq.{take-length, length-take-le}
 use Rattle.text.specs.Text.{place_of}
+use Rattle.text.specs.Splitting.{Whole}
 use Rattle.printing.specs.Writing.{has_room}
 use Rattle.lines.specs.Statement.{line_read}
 use Rattle.progress.specs.declared.Progress.{Progress}
@@ -53,46 +54,46 @@ line_registers x l r h e =
     (cut_registers x front (10 ∷ []) r ∙ ap (with_readings (after_byte (after x front) 10).state) (front_registers x l r e))
 
 -- The bytes before the newline are held behind those that were.
-module _ (x y : Session) (input out : List ℕ) (e i : ℕ) (p : e ≡ place_of 10 input) (k : Keeps x (take e input) y) where
-  state : after (so_far_of x) (take e input) ≡ held (kept_of x.held.items (take e input)) (state_of x.progress)
+module _ (x y : Session) (input out front : List ℕ) (i : ℕ) (p : front ≡ take (place_of 10 input) input) (k : Keeps x front y) where
+  state : after (so_far_of x) front ≡ held (kept_of x.held.items front) (state_of x.progress)
   state = rw p (front_state (so_far_of x) input k.room)
 
-  none : printed (so_far_of x) (take e input) ≡ []
+  none : printed (so_far_of x) front ≡ []
   none = rw p (front_text (so_far_of x) input)
 
   -- The newline: the line is read, and nothing is held any more.
-  pub line_ended : (later : Progress) (line out_later : List ℕ) (j : ℕ) → e < length input
+  pub line_ended : (later : Progress) (line out_later : List ℕ) (j : ℕ) → place_of 10 input < length input
       → has_room out i ≡ true → Reads y.progress y.held.items out i later out_later j → line ≡ []
-      → TakesBytes (so_far_of x) (registers_of x) input out i (e + 1) (held line (state_of later)) (registers_held later) j out_later
-  line_ended later line out_later j n room reads empty =
+      → TakesBytes (so_far_of x) (registers_of x) input out i (length front + 1) (held line (state_of later)) (registers_held later) j out_later
+  line_ended later line out_later j short room reads empty =
       let w = rw (k.line, k.progress) at reads in
-      let whole = held (kept_of x.held.items (take e input)) (state_of x.progress) in
-      let short : place_of 10 input < length input = omega arith in
-      let all : take (e + 1) input ≡ take e input ++ 10 ∷ [] = rw p (newline_last input short) in
-      let text : printed (so_far_of x) (take (e + 1) input) ≡ (line_read whole.line whole.state).text
-      = rw (all, printed_newline (so_far_of x) (take e input), none, state) (newline_text whole 10 refl) in
+      let whole = held (kept_of x.held.items front) (state_of x.progress) in
+      let long : length front ≡ place_of 10 input = ap length p ∙ length-take-le (place_of 10 input) input (omega (arith, short)) in
+      let all : take (length front + 1) input ≡ front ++ 10 ∷ [] = rw (long, p) (newline_last input short) in
+      let text : printed (so_far_of x) (take (length front + 1) input) ≡ (line_read whole.line whole.state).text
+      = rw (all, printed_newline (so_far_of x) front, none, state) (newline_text whole 10 refl) in
       let read : state_of later ≡ (line_read whole.line whole.state).state = rw room at w.state in
-      let after_is : after (so_far_of x) (take (e + 1) input) ≡ held [] (state_of later)
-      = rw (all, after_newline (so_far_of x) (take e input), state) (newline_state whole 10 refl ∙ ap (held []) (sym read)) in
-      let registers : registers_after (so_far_of x) (take (e + 1) input) (registers_of x)
-      ≡ with_readings (after (so_far_of x) (take (e + 1) input)).state (registers_of x)
-      = rw p (line_registers (so_far_of x) input (registers_of x) short (held_same x.progress)) in
+      let after_is : after (so_far_of x) (take (length front + 1) input) ≡ held [] (state_of later)
+      = rw (all, after_newline (so_far_of x) front, state) (newline_state whole 10 refl ∙ ap (held []) (sym read)) in
+      let registers : registers_after (so_far_of x) (take (length front + 1) input) (registers_of x)
+      ≡ with_readings (after (so_far_of x) (take (length front + 1) input)).state (registers_of x)
+      = rw long (line_registers (so_far_of x) input (registers_of x) short (held_same x.progress)) in
       record {
-        takes = ap (λ (m : ℕ). m + 1) p ∙ sym (bytes_place input short);
+        takes = ap (λ (m : ℕ). m + 1) long ∙ sym (bytes_place input short);
         stands = rw empty (sym after_is);
         registers = w.registers ∙ sym (rw after_is at registers);
         text = rw text (record { bytes = rw room at w.text.bytes; end = rw room at w.text.end });
       }
 
 -- There is no newline: all bytes are held.
-pub all_held : (x y : Session) (input out : List ℕ) (i : ℕ) → length input ≡ place_of 10 input → Keeps x input y → TakesLine x input out i (length input) y i out
+pub all_held : (x y : Session) (input out : List ℕ) (i : ℕ) → Whole 10 input → Keeps x input y → TakesLine x input out i (length input) y i out
 all_held x y input out i p k =
-    let all : Keeps x (take (length input) input) y = rw (take_all (length input) input (omega arith)) k in
+    let all : input ≡ take (place_of 10 input) input = rw p (sym (take-length input)) in
     let registers : registers_after (so_far_of x) (take (length input) input) (registers_of x) ≡ registers_of x
-    = rw p (front_registers (so_far_of x) input (registers_of x) (held_same x.progress)) in
+    = rw (← p) (front_registers (so_far_of x) input (registers_of x) (held_same x.progress)) in
     record {
-      takes = sym (bytes_all input (sym p));
-      stands = sym (rw (all.line, all.progress) (state x y input out (length input) i p all));
-      registers = sym (rw all.progress registers);
-      text = rw (none x y input out (length input) i p all) (record { bytes = refl; end = omega arith });
+      takes = sym (bytes_all input p);
+      stands = sym (rw (take-length input, k.line, k.progress) (state x y input out input i all k));
+      registers = sym (rw k.progress registers);
+      text = rw (take-length input, none x y input out input i all k) (record { bytes = refl; end = omega arith });
     }

@@ -17,8 +17,6 @@ const KEPT_BYTES: usize = 98;
 // Room for the last two texts.
 const LEAST_ROOM: usize = 2048;
 
-const NEWLINE: u8 = 10;
-
 // The bytes that are held of the line that isn't complete yet, and the progress of the lines so far. Lend at least 2,048 bytes for texts: with fewer
 // `feed` takes nothing.
 #[derive(Drop)]
@@ -65,18 +63,18 @@ impl Session {
         requires { has_room out.old 0 ≡ true }
         ensures { TakesLine self.old input.now out.old 0 result.taken self.new result.written out.new }
     {
-        let Some(end) = text::find(NEWLINE, input) else {
+        let Some((line, _)) = text::split_once(b'\n', input) else {
             self.keep(input);
             return Fed {
                 taken: input.len(),
                 written: 0,
             };
         };
-        self.keep(&input[..end]);
+        self.keep(line);
         let written = self.progress.read_line(self.held.as_slice(), out);
         self.held.clear();
         Fed {
-            taken: end + 1,
+            taken: line.len() + 1,
             written,
         }
     }

@@ -27,7 +27,8 @@ fn move_credit(credit: &mut u64, need: &mut u64) -> u64
     moved
 }
 
-// Credit shared among the need of cheaper periods: in the order of step 4, each move from what the moves before it left.
+// Credit shared among the need of cheaper periods, each move from what the moves before it left. They stay six lines, which say in the order of step 4 what
+// moves where: two loops over the periods would need the fields by place.
 pub fn share(credit: ByPeriod, need: ByPeriod) -> Shared
     ensures { result ≡ shared_of credit need }
 {

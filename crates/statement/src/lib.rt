@@ -15,8 +15,6 @@ use std::rt::Stdin;
 
 const STANDARD_INPUT: i32 = 0;
 
-const NEWLINE: u8 = 10;
-
 // Where a printed line has its number, by place, as in the definition: after `open=`, and after `bill=YYYY-MM answer=`. Not by prefixes: behind
 // `bill=` a place would be needed all the same.
 const OPENING_NUMBER: usize = 5;
@@ -47,6 +45,15 @@ struct Telling {
     table: bool,
     explain: bool,
     verdict: Verdict,
+}
+
+// A run of `statement`: a session, room for what it prints, and where that is told. The room's size, which `io::large_buffer` gives, stands in its type,
+// so that no contract has to ask for room enough.
+#[derive(Drop)]
+struct Run {
+    session: Session,
+    out: [u8; 65536],
+    telling: Telling,
 }
 
 // The number of an end, for C.
@@ -136,7 +143,7 @@ impl Telling {
     fn text(&mut self, text: &[u8]) -> Result<(), Failure>
         ensures { OnOk result (Tells self.old.verdict text.now self.new.verdict) }
     {
-        for line in text.split_inclusive(|b| *b == NEWLINE) {
+        for line in text.split_inclusive(|b| *b == b'\n') {
             self.verdict = self.verdict.after(line);
             self.line(line)?;
         }
@@ -144,42 +151,40 @@ impl Telling {
     }
 }
 
-// Gives a session bytes until it has taken all, and tells its texts in between.
-fn give(
-    session: &mut Session,
-    input: &[u8],
-    out: &mut [u8],
-    telling: &mut Telling,
-) -> Result<(), Failure>
-    requires { 2048 ≤ length out.old }
-    ensures { OnOk result (Gives (so_far_of session.old) telling.old.verdict input.now (so_far_of session.new) telling.new.verdict) }
-{
-    let mut rest = input;
-    while !rest.is_empty() {
-        let fed = session.feed(rest, out);
-        telling.text(&out[..fed.written])?;
-        rest = &rest[fed.taken..];
+impl Run {
+    // Gives the session bytes until it has taken all, and tells its texts in between.
+    fn give(&mut self, input: &[u8]) -> Result<(), Failure>
+        ensures { OnOk result (Gives (so_far_of self.old.session) self.old.telling.verdict input.now (so_far_of self.new.session) self.new.telling.verdict) }
+    {
+        let mut rest = input;
+        while !rest.is_empty() {
+            let fed = self.session.feed(rest, &mut self.out);
+            self.telling.text(&self.out[..fed.written])?;
+            rest = &rest[fed.taken..];
+        }
+        Ok(())
     }
-    Ok(())
-}
 
-// Tells what the end of the input prints.
-fn finish(session: &mut Session, out: &mut [u8], telling: &mut Telling) -> Result<(), Failure>
-    requires room { 2048 ≤ length out.old }
-    ensures { OnOk result (Tells telling.old.verdict (ending (so_far_of session.old)) telling.new.verdict) }
-{
-    let written = session.finish(out);
-    telling.text(&out[..written])
+    // Tells what the end of the input prints.
+    fn finish(&mut self) -> Result<(), Failure>
+        ensures { OnOk result (Tells self.old.telling.verdict (ending (so_far_of self.old.session)) self.new.telling.verdict) }
+    {
+        let written = self.session.finish(&mut self.out);
+        self.telling.text(&self.out[..written])
+    }
 }
 
 // Reads standard input to its end, and tells what is printed for it, as soon as it is known.
-fn print(mut stdin: Stdin, mut telling: Telling) -> Result<Verdict, Failure>
+fn print(mut stdin: Stdin, telling: Telling) -> Result<Verdict, Failure>
     requires { telling.verdict ≡ Verdict.Accepted }
     ensures { Ends (end_of result) }
 {
     let mut buffer = io::large_buffer();
-    let mut out = io::large_buffer();
-    let mut session = Session::start();
+    let mut run = Run {
+        session: Session::start(),
+        out: io::large_buffer(),
+        telling,
+    };
     // A loop that is proved has to end, and nothing says that the input does: it has a number of turns that no run uses up.
     for _ in 0..u64::MAX {
         // An input that can't be read on isn't at its end, so what is incomplete stays so.
@@ -187,14 +192,14 @@ fn print(mut stdin: Stdin, mut telling: Telling) -> Result<Verdict, Failure>
         if count == 0 {
             break;
         }
-        give(&mut session, &buffer[..count], &mut out, &mut telling)?;
+        run.give(&buffer[..count])?;
         // After a fault there is no point in reading on.
-        if session.is_stopped() {
-            return Ok(telling.verdict);
+        if run.session.is_stopped() {
+            return Ok(run.telling.verdict);
         }
     }
-    finish(&mut session, &mut out, &mut telling)?;
-    Ok(telling.verdict)
+    run.finish()?;
+    Ok(run.telling.verdict)
 }
 
 // Reads the descriptor `input` to its end, writes to `output` what `statement` prints for it, as soon as it is known, and says how that ended. A read or a

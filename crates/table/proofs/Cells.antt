@@ -2,13 +2,31 @@
 use mathlib.Core.Path.{◌≡◌, refl, ◌∙◌, sym}
 use mathlib.Core.Bool.{Bool, true, false, cond, false≢true, ◌||◌}
 use mathlib.Core.List.{List, [], ◌∷◌, ◌++◌}
-use Prim.Native.Nat.{ℕ, zero, suc, ◌≤◌, ◌<◌}
+use Prim.Native.Nat.{ℕ, zero, suc, ◌+◌, ◌-◌, ◌≤◌, ◌<◌}
 use native.Mathlib.Omega.{arith}
+use native.Mathlib.Numerals.{unary_clauses}
 use borrow.Author.Tests.{lt-ltb, le-ltb, ltb-true, ltb-false}
 use lib.Dec.{ltb, lit≤}
-use Rattle.std.specs.List.{list_any, range_with_len}
+use lib.ListN.{length, get_or, take, drop}
+use lib.Seq.{drop-cons}
+use Rattle.std.specs.List.{list_any, range_with_len, fold}
+use Rattle.table.specs.Numbers.{capped}
 use Rattle.table.specs.Table.{shown_numbers, any_wide, width_of}
 use Rattle.table.specs.Filling.{cell_at, Width}
+
+-- The sum of four numbers side by side, which stays at the largest number of 64 bits, as `fold` adds them up.
+abbrev pub sum_on : ℕ → ℕ → ℕ
+sum_on sum n = capped (sum + n)
+
+pub four_summed : (ns : List ℕ) (j : ℕ) → j + 4 ≤ length ns
+    → fold sum_on 0 (take (j + 4 - j) (drop j ns)) ≡ capped (get_or ns (j + 0) 0 + get_or ns (j + 1) 0 + get_or ns (j + 2) 0 + get_or ns (j + 3) 0)
+four_summed ns j h =
+    let four : j + 4 - j ≡ 4 = omega arith in
+    let one = drop-cons ns j 0 (omega arith) in
+    let two = drop-cons ns (suc j) 0 (omega arith) in
+    let three = drop-cons ns (suc (suc j)) 0 (omega arith) in
+    let last = drop-cons ns (suc (suc (suc j))) 0 (omega arith) in
+    rw (four, one, two, three, last) (simp unary_clauses (omega arith))
 
 -- The first k values of a function.
 abbrev pub up_to : {A : Type 0} → (ℕ → A) → ℕ → List A

@@ -30,7 +30,8 @@ const WIDE: usize = 28;
 // The first mark of the table of a month: those before it are the marks of notes.
 const TABLE_MARK: usize = 4;
 
-// What a line tells. An opening and a month have the number of their refusal, as the line shows it: 0 says that nothing was refused.
+// What a line tells. An opening and a month have the number of their refusal, as the line shows it: 0 says that nothing was refused. No Option: it would
+// first be made of this number by a test, and each match would have `Some(n)` in place of `n`.
 #[derive(Clone, Copy)]
 enum Kind {
     Opening(u64),
@@ -55,13 +56,6 @@ enum Row {
     FirstLost,
     Unknown,
     Stopped,
-}
-
-// A reason: what is wrong, and what to do.
-#[derive(Clone, Copy)]
-struct Reason {
-    wrong: &'static [u8],
-    to_do: &'static [u8],
 }
 
 // A text with marks: `#` for a number, `~` for what is wrong and `!` for what to do. Its `#`s are counted from its first mark on. A template, for the reasons
@@ -148,10 +142,9 @@ fn cell_of(numbers: &[u64; NUMBERS], k: usize) -> u64
     if k < 28 {
         numbers[first + k / 7]
     } else if k < 35 {
-        numbers[first]
-            .saturating_add(numbers[first + 1])
-            .saturating_add(numbers[first + 2])
-            .saturating_add(numbers[first + 3])
+        numbers[first..first + 4]
+            .iter()
+            .fold(0, |sum: u64, amount| sum.saturating_add(*amount))
     } else {
         numbers[k - 4]
     }
@@ -246,65 +239,48 @@ fn row_of(kind: Kind) -> Row
 }
 
 impl Row {
-    // What is wrong and what to do, of a row.
-    #[tactic(auto, unfolding(crate::specs::Filling::to_do_at, crate::specs::Reasons::wrong_at))]
-    fn reason(self) -> Reason
-        ensures wrong { result.wrong.now ≡ wrong_at (row_number self) }
-        ensures to_do { result.to_do.now ≡ to_do_at (row_number self) }
+    // What is wrong.
+    #[tactic(auto, unfolding(crate::specs::Reasons::wrong_at))]
+    fn wrong(self) -> &'static [u8]
+        ensures { result.now ≡ wrong_at (row_number self) }
     {
         match self {
-            Row::NeverOpened => Reason {
-                wrong: b"the account was never opened",
-                to_do: b"repair the opening; its number is in the first line printed",
-            },
-            Row::Amounts => Reason {
-                wrong: b"an amount above 1,000,000, or an energy price above the one before",
-                to_do: b"correct lines 7 to 14",
-            },
-            Row::Nameplates => Reason {
-                wrong: b"a nameplate of 0, or a total above line 5, 20 kW (home), or 1,000 kW (business)",
-                to_do: b"correct line 4 or 5",
-            },
-            Row::Business => Reason {
-                wrong: b"a business under the bridge rider",
-                to_do: b"make it a home, or take the banked rider",
-            },
-            Row::FirstMonth => Reason {
-                wrong: b"a first month after December 2099",
-                to_do: b"open earlier",
-            },
-            Row::OtherMonth => Reason {
-                wrong: b"not the month that is next",
-                to_do: b"bill the months in order, each once, from line 1's month on",
-            },
-            Row::Readings => Reason {
-                wrong: b"more or fewer readings than the month has quarter-hours",
-                to_do: b"make the counts of its runs add up",
-            },
-            Row::CriticalDays => Reason {
-                wrong: b"a critical day that the month doesn't have, or more than ten",
-                to_do: b"add up the days again",
-            },
-            Row::LargeReading => Reason {
-                wrong: b"a reading above 1,000,000 Wh",
-                to_do: b"correct the run",
-            },
-            Row::LastMonth => Reason {
-                wrong: b"December 2099 was billed, and there is no month after it",
-                to_do: b"stop there",
-            },
-            Row::FirstLost => Reason {
-                wrong: b"the first reading of a register is lost",
-                to_do: b"give a reading there; only later ones are filled in",
-            },
-            Row::Unknown => Reason {
-                wrong: b"a refusal that this program doesn't know",
-                to_do: b"ask the office",
-            },
-            Row::Stopped => Reason {
-                wrong: b"not a line that can stand there, or the input ends before it",
-                to_do: b"correct the line and run the file again",
-            },
+            Row::NeverOpened => b"the account was never opened",
+            Row::Amounts => b"an amount above 1,000,000, or an energy price above the one before",
+            Row::Nameplates =>
+                b"a nameplate of 0, or a total above line 5, 20 kW (home), or 1,000 kW (business)",
+            Row::Business => b"a business under the bridge rider",
+            Row::FirstMonth => b"a first month after December 2099",
+            Row::OtherMonth => b"not the month that is next",
+            Row::Readings => b"more or fewer readings than the month has quarter-hours",
+            Row::CriticalDays => b"a critical day that the month doesn't have, or more than ten",
+            Row::LargeReading => b"a reading above 1,000,000 Wh",
+            Row::LastMonth => b"December 2099 was billed, and there is no month after it",
+            Row::FirstLost => b"the first reading of a register is lost",
+            Row::Unknown => b"a refusal that this program doesn't know",
+            Row::Stopped => b"not a line that can stand there, or the input ends before it",
+        }
+    }
+
+    // What to do.
+    #[tactic(auto, unfolding(crate::specs::Filling::to_do_at))]
+    fn to_do(self) -> &'static [u8]
+        ensures { result.now ≡ to_do_at (row_number self) }
+    {
+        match self {
+            Row::NeverOpened => b"repair the opening; its number is in the first line printed",
+            Row::Amounts => b"correct lines 7 to 14",
+            Row::Nameplates => b"correct line 4 or 5",
+            Row::Business => b"make it a home, or take the banked rider",
+            Row::FirstMonth => b"open earlier",
+            Row::OtherMonth => b"bill the months in order, each once, from line 1's month on",
+            Row::Readings => b"make the counts of its runs add up",
+            Row::CriticalDays => b"add up the days again",
+            Row::LargeReading => b"correct the run",
+            Row::LastMonth => b"stop there",
+            Row::FirstLost => b"give a reading there; only later ones are filled in",
+            Row::Unknown => b"ask the office",
+            Row::Stopped => b"correct the line and run the file again",
         }
     }
 }
@@ -435,7 +411,7 @@ impl Sheet {
         if out.len() < TABLE_ROOM {
             return 0;
         }
-        let reason = row_of(self.kind).reason();
+        let row = row_of(self.kind);
         let mut end = 0;
         let mut mark = template.first_mark;
         for byte in template.text {
@@ -446,8 +422,8 @@ impl Sheet {
                     mark += 1;
                     count
                 }
-                b'~' => put_bytes(rest, reason.wrong),
-                b'!' => put_bytes(rest, reason.to_do),
+                b'~' => put_bytes(rest, row.wrong()),
+                b'!' => put_bytes(rest, row.to_do()),
                 _ => put_bytes(rest, &[*byte]),
             };
         }

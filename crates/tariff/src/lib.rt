@@ -21,7 +21,8 @@ pub enum Class {
     Business,
 }
 
-// A number that is the code of no value.
+// A number that is the code of no value. Riders, classes and, in `account`, stages have an impl each: what differs is the table of codes, and they share
+// `Decoded`.
 #[derive(Clone, Copy, PartialEq, Eq, Debug)]
 pub struct UnknownCode(pub u64);
 

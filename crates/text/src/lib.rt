@@ -1,9 +1,10 @@
 // Texts, as bytes; and how any items are read from a list and written to a lent buffer.
 #![tactic(auto)]
 
-ghost use Rattle.std.specs.Prelude.{◌≡◌, ◌<◌, length, IfSome, get_or, unwrap_or};
+ghost use Rattle.std.specs.Prelude.{◌≡◌, ◌<◌, length, IfSome, MatchOption, get_or, unwrap_or};
 ghost use Rattle.std.proofs.lemmas.List.Edits.{sets};
 ghost use Rattle.text.specs.Text.{place_of};
+ghost use Rattle.text.specs.Splitting.{Whole, Split};
 
 // The place where a byte first stands, if a text has it.
 pub fn find(byte: u8, text: &[u8]) -> Option<usize>
@@ -13,12 +14,12 @@ pub fn find(byte: u8, text: &[u8]) -> Option<usize>
     text.iter().position(|b| *b == byte)
 }
 
-// The place where a byte first stands, or the length of a text that doesn't have it: for a reader that takes the bytes up to it in either case. Another one
-// asks `find`.
-pub fn place_of(byte: u8, text: &[u8]) -> usize
-    ensures { result ≡ place_of byte text.now }
+// What stands before the first of a byte, and what stands behind it, if a text has it.
+pub fn split_once(byte: u8, text: &[u8]) -> Option<(&[u8], &[u8])>
+    ensures { MatchOption result (Whole byte text.now) (λ parts. Split byte text.now parts.0.now parts.1.now) }
 {
-    find(byte, text).unwrap_or(text.len())
+    let place = find(byte, text)?;
+    Some((&text[..place], &text[place + 1..]))
 }
 
 // The item at a place, or another one past the end.

@@ -25,7 +25,8 @@ struct Fed {
 }
 
 // Adds bytes to a text, and says where the next ones go: places stay at the largest number, where nothing is written any more. A text and a place in it are no
-// struct: one that borrows the text would have to say what that holds when the borrow ends, as these contracts do.
+// struct: one that borrows the text would have to say what that holds when the borrow ends, as these contracts do. Nor is it the text from the place on: the
+// place goes on past the text's end, since the length of the whole is told.
 fn add(text: &mut [u8], place: usize, bytes: &[u8]) -> usize
     ensures { Adds text.old place bytes.now text.new result }
 {

@@ -41,11 +41,11 @@ more c =
     word_more c.args.entries.now (length (left c)) _ _ (omega (arith, long c, c.loop-entry.invariant.0)) word (c.from.ensures ∙ entry)
 
 fitting : (c : After-from) → c.from.result + 4 * c.loop-entry.word < 2 ^ 64
-fitting c = rw (more c) (word_fits _ c.requires.entries _ _ (omega arith))
+fitting c = rw (more c) (word_fits _ c.requires _ _ (omega arith))
 
 pub loop-entry-init : goal.loop-entry-init
 unfolding word_from
-loop-entry-init c = rw (c.into_iter-entry-iterator.ensures.into_iter_gives, c.rev-entry-items.ensures.source, c.iter.ensures.rest, c.requires.word_length) (omega arith, λ k h. refl, refl)
+loop-entry-init c = rw (c.into_iter-entry-iterator.ensures.into_iter_gives, c.rev-entry-items.ensures.source, c.iter.ensures.rest, c.told-entries) (omega arith, λ k h. refl, refl)
 
 pub overflow_mul-word : goal.overflow_mul-word
 overflow_mul-word c = omega (arith, fitting c)

@@ -24,5 +24,6 @@ returns c =
       value = rw yes;
       answer_after = rw yes
           (c.write_at.ensures ∙ ap (λ row. sets answer 0 row) (c.row_of-row.ensures ∙ ap row_of (answer_is at.account.now at.call.now at.delivered.now at.received.now c.in-Some.answered told)));
-      after_after = rw (yes, ← (account_is at.account.now at.call.now at.delivered.now at.received.now c.in-Some.answered told)) c.write_account.ensures;
+      after_after =
+          rw (yes, ← (account_is at.account.now at.call.now at.delivered.now at.received.now c.in-Some.answered told), ← c.account_row.ensures) c.write_at-2.ensures;
     }

@@ -4,7 +4,7 @@ use Rattle.statement.proofs.Reaching.{reached_none, reached_more, reached_stop, 
 use Rattle.statement.proofs.print.Goals as goal
 
 pub loop-init : goal.loop-init
-loop-init c = rw c.requires (reached_none _ c.start-session.ensures)
+loop-init c = rw c.requires (reached_none _ c.start.ensures)
 
 pub returns-then-is_stopped : goal.returns-then-is_stopped
 returns-then-is_stopped c =

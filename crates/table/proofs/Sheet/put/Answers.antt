@@ -29,12 +29,11 @@ pub loop-byte-preserved : goal.loop-byte-preserved
 loop-byte-preserved c =
     let inv = c.loop-byte.invariant in
     let inside = c.loop-byte-test.true in
-    let reason = c.reason-reason.ensures in
     elim c.match-byte.branch [
       | in-35 w ↦
           rw (w.out-is, w.mark-is, w.end-is) (then_mark inv inside w.in-35.is (marked_length _ _ _ c.args.self.now.most) w.put_mark-count.ensures)
-      | in-126 w ↦ rw (w.out-is, w.mark-is, w.end-is) (then_what inv inside w.in-126.is (rw reason.wrong (wrong_short _)) w.put_bytes.ensures)
-      | in-33 w ↦ rw (w.out-is, w.mark-is, w.end-is) (then_then inv inside w.in-33.is (rw reason.to_do (to_do_short _)) w.put_bytes-in-33.ensures)
+      | in-126 w ↦ rw (w.out-is, w.mark-is, w.end-is) (then_what inv inside w.in-126.is (wrong_short _) (rw w.wrong.ensures at w.put_bytes.ensures))
+      | in-33 w ↦ rw (w.out-is, w.mark-is, w.end-is) (then_then inv inside w.in-33.is (to_do_short _) (rw w.to_do.ensures at w.put_bytes-in-33.ensures))
       | in_default w ↦
           rw (w.out-is, w.mark-is, w.end-is)
           (then_byte inv inside (λ e. omega arith) (λ e. omega arith) (λ e. omega arith) w.put_bytes-in_default.ensures)
@@ -46,4 +45,4 @@ returns-then-out-lt-TABLE_ROOM c = put_short 2048 c.args.out.now c.if-out-lt-TAB
 pub returns : goal.returns
 returns c =
     put_long 2048 c.args.out.now c.if-out-lt-TABLE_ROOM.false
-    (rw (c.reason-reason.ensures.wrong, c.reason-reason.ensures.to_do, c.row_of.ensures) at (ends c.loop-byte.invariant c.loop-byte-test.false))
+    (rw c.row_of-row.ensures at (ends c.loop-byte.invariant c.loop-byte-test.false))
