@@ -64,7 +64,8 @@ const BILLING: u64 = 2;
 
 const CLOSING: u64 = 3;
 
-// The row of an answer: its number; of a bill eleven amounts by period and the money lines; of a closing an amount by period and a sum of money.
+// The row of an answer: its number; of a bill eleven amounts by period and the money lines; of a closing an amount by period and a sum of money. Its places, too,
+// are those of the interface for C.
 const BY_PERIOD_PLACE: usize = 1;
 
 const LINES_PLACE: usize = BY_PERIOD_PLACE + 11 * 4;
