@@ -2,16 +2,17 @@
 use mathlib.Core.Path.{◌≡◌, refl, ◌∙◌, ap}
 use mathlib.Core.Bool.{Bool, cond, true, false}
 use mathlib.Core.List.{List, [], ◌∷◌, ◌++◌, append_assoc, append-nil}
-use Prim.Native.Nat.{ℕ, zero, suc, ◌+◌, ◌≤◌, ◌<◌}
+use Prim.Native.Nat.{ℕ, zero, suc, ◌+◌, ◌-◌, ◌≤◌, ◌<◌}
 use native.Mathlib.Nat.{suc-add}
 use native.Mathlib.Omega.{arith}
 use borrow.Author.Tests.{ne_eqb}
 use lib.Dec.{eqb}
-use lib.ListN.{length, take, drop, length-append, drop_of_length-le}
+use lib.ListN.{length, take, drop, length-append, length-drop, drop_of_length-le}
 use lib.Seq.{take-length, take-append_seam, drop-append-add}
 use Rattle.std.specs.List.{position_or_len}
 use Rattle.std.proofs.lemmas.List.Recursion.{is_position_or_len}
 use Rattle.text.specs.Text.{place_of, lines_from}
+use Rattle.std.proofs.lemmas.List.{take_rest}
 
 -- It is std's first place, or the length.
 pub place_is : (b : ℕ) (l : List ℕ) → place_of b l ≡ position_or_len (λ x. eqb x b) l
@@ -27,6 +28,10 @@ place_within b (x ∷ l) = by (eqb x b) (place_within b l)
     by : (t : Bool) → place_of b l ≤ length l → cond t zero (suc (place_of b l)) ≤ suc (length l)
     by true h = omega arith
     by false h = omega arith
+
+-- Likewise where it is looked for from a place on.
+pub place_from : (b i : ℕ) (l : List ℕ) {found : ℕ} → i ≤ length l → found ≡ place_of b (take (length l - i) (drop i l)) → i + found ≤ length l
+place_from b i l h e = omega (arith, e, ap (place_of b) (take_rest l i), place_within b (drop i l), length-drop i l)
 
 -- The first line of a text that has one, and those behind it.
 pub first_line : (l text : List ℕ) → 0 < length l + length text
