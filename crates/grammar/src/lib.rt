@@ -85,13 +85,12 @@ pub fn opening_line(k: u32, line: &[u8]) -> Option<ArrayVec<u32, MOST_NUMBERS>>
         0 => keyed(line, b"opens=", numerals::month_in).map(alone),
         1 => word(line, b"rider=", b"banked", b"bridge"),
         2 => word(line, b"class=", b"home", b"business"),
-        3 => keyed(line, b"nameplate=", numerals::numbers_up_to),
+        3 => keyed(line, b"nameplate=", |text| {
+            numerals::numbers_up_to(text, MOST_NUMBERS)
+        }),
         4 => number(line, b"limit="),
         5 => word(line, b"assisted=", b"no", b"yes"),
-        6 => {
-            let prices = keyed(line, b"prices=", numerals::numbers_in::<4>)?;
-            ArrayVec::try_from(prices.as_slice()).ok()
-        }
+        6 => keyed(line, b"prices=", |text| numerals::numbers_in(text, 4)),
         7 => number(line, b"demand="),
         8 => number(line, b"standby="),
         9 => number(line, b"bypass="),
@@ -124,7 +123,7 @@ pub fn critical_line(line: &[u8]) -> Option<u32>
 pub fn run_line(line: &[u8]) -> Option<[u32; 3]>
     ensures { unwrap_or result [] ≡ run_line line.now }
 {
-    keyed(line, b"run=", numerals::numbers_in)?
+    keyed(line, b"run=", |text| numerals::numbers_in(text, 3))?
         .into_inner()
         .ok()
 }

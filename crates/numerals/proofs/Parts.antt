@@ -2,10 +2,10 @@
 use mathlib.Core.Path.{◌≡◌, refl, sym, ap, ◌∙◌}
 use mathlib.Core.Bool.{Bool, true, false, false≢true, cond, ◌&&◌}
 use mathlib.Core.List.{List, [], ◌∷◌, ◌++◌, map, append_assoc}
-use Prim.Native.Nat.{ℕ, zero, suc, ◌+◌, ◌≤◌, ◌<◌}
+use Prim.Native.Nat.{ℕ, zero, suc, ◌+◌, ◌≤◌, ◌<◌, min}
 use native.Mathlib.Numerals.{add-one}
 use native.Mathlib.Omega.{arith}
-use borrow.Author.Tests.{eqb-true, leb-true, leb-false, le-leb}
+use borrow.Author.Tests.{ne_eqb, eqb-true, leb-true, leb-false, le-leb}
 use lib.Dec.{eqb, leb}
 use lib.ListN.{length, take, drop, length-map, length-append, length-drop}
 use Rattle.text.specs.Text.{place_of}
@@ -140,3 +140,17 @@ numbers_are n l = by (eqb (length ps) n) (leb (length ps) n) (all_numbers ps) re
     by false true true e f = rw (length-map ps value_of, e)
     by false true false e f = none (eqb 0 n)
     by false false numbers e f = none (eqb 0 n)
+
+-- Likewise where there is room for m: none where there is no room for so many.
+pub counted_are : (m n : ℕ) (l : List ℕ)
+    → cond (leb n m) (numbers_in n l) [] ≡ cond (eqb (length (numbers_up_to (min n m) l)) n) (numbers_up_to (min n m) l) []
+counted_are m n l = by (leb n m) refl
+  where
+    by : (t : Bool) → leb n m ≡ t
+        → cond t (numbers_in n l) [] ≡ cond (eqb (length (numbers_up_to (min n m) l)) n) (numbers_up_to (min n m) l) []
+    by true e =
+        let all : min n m ≡ n = omega (arith, leb-true n m e) in
+        rw all (numbers_are n l)
+    by false e =
+        let other : eqb (length (numbers_up_to (min n m) l)) n ≡ false = ne_eqb _ _ (λ f. omega (arith, leb-false n m e, up_to_count (min n m) l)) in
+        rw other

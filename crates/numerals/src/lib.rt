@@ -1,7 +1,7 @@
 // Numbers and months as `statement` reads them: what a text gives in numbers, or none where it is unreadable.
 #![tactic(auto)]
 
-ghost use Rattle.std.specs.Prelude.{◌≡◌, ◌<◌, IfSome, option_to_list};
+ghost use Rattle.std.specs.Prelude.{◌≡◌, cond, [], ◌<◌, min, leb, IfSome, option_to_list};
 ghost use Rattle.arrayvec.specs.ArrayVec.{array_vec_len};
 ghost use Rattle.numerals.specs.Numerals.{number_in, month_in, numbers_in, numbers_up_to};
 ghost use Rattle.numerals.specs.Reading.{items_of};
@@ -56,29 +56,32 @@ pub fn month_in(text: &[u8]) -> Option<u32>
     month_of(year, of_year)
 }
 
-// One number or more, up to N, with commas between them.
+// One number or more, up to so many, with commas between them; no more than N, which is the room for them.
 // That there is one stays a clause, here and in the crate above: a type for it would wrap `ArrayVec` with methods of its own, and be no plainer.
-pub fn numbers_up_to<const N: usize>(text: &[u8]) -> Option<ArrayVec<u32, N>>
-    ensures value { items_of result ≡ numbers_up_to N text.now }
+pub fn numbers_up_to<const N: usize>(text: &[u8], most: usize) -> Option<ArrayVec<u32, N>>
+    ensures value { items_of result ≡ numbers_up_to (min most N) text.now }
     ensures some { IfSome result (λ numbers. 0 < array_vec_len numbers) }
 {
     let mut numbers = ArrayVec::new();
     // By what is left and not by `split`, whose loop the check can't read in a function with a const parameter.
     let mut rest = text;
-    while let Some((number, behind)) = text::split_once(b',', rest) {
-        numbers.try_push(number_in(number)?).ok()?;
+    for _ in 0..most.min(N) {
+        let Some((number, behind)) = text::split_once(b',', rest) else {
+            numbers.push(number_in(rest)?);
+            return Some(numbers);
+        };
+        numbers.push(number_in(number)?);
         rest = behind;
     }
-    numbers.try_push(number_in(rest)?).ok()?;
-    Some(numbers)
+    None
 }
 
-// N numbers with commas between them. An `ArrayVec` and no array: with `[u32; N]` alone in the signature, that an `ArrayVec` of N fits memory would have to be
-// required, and a public function requires nothing.
-pub fn numbers_in<const N: usize>(text: &[u8]) -> Option<ArrayVec<u32, N>>
-    ensures value { items_of result ≡ numbers_in N text.now }
-    ensures all { IfSome result (λ numbers. array_vec_len numbers ≡ N) }
+// So many numbers with commas between them; none where there is no room for so many. An `ArrayVec` and no array: with `[u32; N]` alone in the signature, that
+// an `ArrayVec` of N fits memory would have to be required, and a public function requires nothing.
+pub fn numbers_in<const N: usize>(text: &[u8], count: usize) -> Option<ArrayVec<u32, N>>
+    ensures value { items_of result ≡ cond (leb count N) (numbers_in count text.now) [] }
+    ensures all { IfSome result (λ numbers. array_vec_len numbers ≡ count) }
 {
-    let numbers = numbers_up_to(text)?;
-    numbers.is_full().then_some(numbers)
+    let numbers = numbers_up_to(text, count)?;
+    (numbers.len() == count).then_some(numbers)
 }
