@@ -36,33 +36,33 @@ pub const TERMS_LENGTH: usize = ASSISTED_PLACE + 1;
 pub const PRICES_LENGTH: usize = 11;
 
 // The record of a call: its kind; of an opening terms, price list and first month, of a repricing the price list at the same place.
-const KIND_PLACE: usize = 0;
+pub const KIND_PLACE: usize = 0;
 
-const TERMS_PLACE: usize = KIND_PLACE + 1;
+pub const TERMS_PLACE: usize = KIND_PLACE + 1;
 
-const PRICES_PLACE: usize = TERMS_PLACE + TERMS_LENGTH;
+pub const PRICES_PLACE: usize = TERMS_PLACE + TERMS_LENGTH;
 
-const FIRST_MONTH_PLACE: usize = PRICES_PLACE + PRICES_LENGTH;
+pub const FIRST_MONTH_PLACE: usize = PRICES_PLACE + PRICES_LENGTH;
 
 pub const RECORD: usize = FIRST_MONTH_PLACE + 1;
 
 // Of a billing the month, the number of its delivered and of its received readings, and the critical days.
-const MONTH_PLACE: usize = KIND_PLACE + 1;
+pub const MONTH_PLACE: usize = KIND_PLACE + 1;
 
-const DELIVERED_PLACE: usize = MONTH_PLACE + 1;
+pub const DELIVERED_PLACE: usize = MONTH_PLACE + 1;
 
-const RECEIVED_PLACE: usize = DELIVERED_PLACE + 1;
+pub const RECEIVED_PLACE: usize = DELIVERED_PLACE + 1;
 
-const CRITICAL_PLACE: usize = RECEIVED_PLACE + 1;
+pub const CRITICAL_PLACE: usize = RECEIVED_PLACE + 1;
 
 // The kinds of calls, as the interface for C numbers them.
-const OPENING: u64 = 0;
+pub const OPENING: u64 = 0;
 
-const REPRICING: u64 = 1;
+pub const REPRICING: u64 = 1;
 
-const BILLING: u64 = 2;
+pub const BILLING: u64 = 2;
 
-const CLOSING: u64 = 3;
+pub const CLOSING: u64 = 3;
 
 // The row of an answer: its number; of a bill eleven amounts by period and the money lines; of a closing an amount by period and a sum of money. Its places, too,
 // are those of the interface for C.
