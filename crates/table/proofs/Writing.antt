@@ -1,11 +1,13 @@
--- Columns written from the right.
-use mathlib.Core.Path.{◌≡◌, refl}
+-- Columns written from the right, and bytes one by one.
+use mathlib.Core.Path.{◌≡◌, refl, sym, ◌∙◌, ap}
 use mathlib.Core.List.{List, [], ◌∷◌, ◌++◌}
-use Prim.Native.Nat.{ℕ, zero, suc, ◌+◌, ◌≤◌}
+use Prim.Native.Nat.{ℕ, zero, suc, ◌+◌, ◌-◌, ◌≤◌, ◌<◌}
 use native.Mathlib.Numerals.{add-one}
 use native.Mathlib.Omega.{arith}
 use lib.ListN.{length, take, drop, length-append}
 use Rattle.std.proofs.lemmas.List.{length-take-le}
+use lib.Seq.{sets, take-add}
+use Rattle.text.proofs.Lists.{sets-append}
 use Rattle.printing.specs.Writing.{Wrote}
 use Rattle.printing.proofs.Writing.{wrote_front}
 use Rattle.table.specs.Filling.{column_byte, column_rest, column}
@@ -37,3 +39,13 @@ pub column_wrote : {o part : List ℕ} (w j n : ℕ) → w ≤ length o → part
 column_wrote {o} {part} w j n h p =
     let same : part ≡ column w j n = rw (length-take-le w o h) at p in
     rw (column_length w j n) at (wrote_front {o = o} same refl (omega (arith, column_length w j n)))
+
+-- A byte more is written behind those that are.
+pub one_more : (l bytes : List ℕ) (i : ℕ) → i < length bytes
+    → sets (sets l 0 (take i bytes)) i (take (i + 1 - i) (drop i bytes)) ≡ sets l 0 (take (i + 1) bytes)
+one_more l bytes i h =
+    let one : i + 1 - i ≡ 1 = omega arith in
+    let long : 0 + length (take i bytes) ≡ i = omega (arith, length-take-le i bytes (omega arith)) in
+    rw one
+    (sym (ap (sets l 0) (take-add i 1 bytes) ∙ sets-append l 0 (take i bytes) (take 1 (drop i bytes))
+    ∙ ap (λ (n : ℕ). sets (sets l 0 (take i bytes)) n (take 1 (drop i bytes))) long))

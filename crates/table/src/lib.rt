@@ -197,11 +197,14 @@ fn put_column(out: &mut [u8], number: u64, place: usize)
     }
 }
 
-// Copies bytes to the front, and says how many they are: three arms of `put` need both.
+// Copies bytes to the front, and says how many they are: three arms of `put` need both. One by one: `write_at` of all is a `memmove`, a name that the archive
+// for C would need from outside for this alone.
 fn put_bytes(out: &mut [u8], bytes: &[u8]) -> usize
     ensures { Wrote out.old 0 bytes.now out.new result }
 {
-    text::write_at(out, 0, bytes);
+    for place in 0..bytes.len() {
+        text::write_at(out, place, &bytes[place..place + 1]);
+    }
     bytes.len()
 }
 
