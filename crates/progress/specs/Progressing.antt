@@ -1,10 +1,11 @@
 -- What the progress stands for, and what its functions promise.
-use Rattle.std.specs.Prelude.{◌≡◌, Bool, false, cond, ◌&&◌, List, ℕ, zero, suc, ◌+◌, eqb, leb, length, get_or, take, drop}
+use Rattle.std.specs.Prelude.{◌≡◌, ◌≤◌, Bool, false, cond, ◌&&◌, List, ℕ, zero, suc, ◌+◌, eqb, leb, length, get_or, take, drop}
 use Rattle.text.specs.Text.{place_of}
 use Rattle.grammar.specs.Grammar.{run_line}
 use Rattle.printing.specs.Writing.{has_room, Put}
 use Rattle.lines.specs.Statement.{State, state, month_of, is_unreadable, run_limit, run_expected, line_read}
 use Rattle.lines.specs.Feeding.{Registers, with_readings}
+use Rattle.progress.specs.declared.mark.Mark.{Mark}
 use Rattle.progress.specs.declared.Progress.{Progress}
 use Rattle.progress.specs.Values.{values_of}
 use Rattle.progress.specs.Expected.{number_of}
@@ -25,6 +26,29 @@ pub record Reads (before : Progress) (line : List ℕ) (out : List ℕ) (i : ℕ
   pub state : state_of later ≡ cond (has_room out i) (line_read line (state_of before)).state (state_of before)
   pub registers : registers_held later ≡ with_readings (state_of later) (registers_held before)
   pub text : Put out i (line_read line (state_of before)).text out_later j
+
+-- What a mark has of a progress.
+pub record Marks (x : Progress) (k : Mark) : Type 0 where
+  pub lines : k.lines ≡ x.lines
+  pub expected : k.expected ≡ x.expected
+  pub opening : k.opening ≡ x.opening
+  pub account : k.account ≡ x.account
+  pub month : k.month ≡ x.month
+  pub critical : k.critical ≡ x.critical
+  pub count : k.count ≡ x.readings.count
+  pub delivered : k.count ≤ length x.readings.delivered
+  pub received : k.count ≤ length x.readings.received
+
+-- What a mark stands for with the readings that these registers have.
+abbrev pub marked : Mark → Registers → State
+marked k r =
+    state k.lines (number_of k.expected) (values_of k.opening) k.account
+    (month_of k.month k.critical (take k.count r.delivered) (take k.count r.received))
+
+-- The progress went back to a mark; the registers are unaltered.
+pub record GoesBack (before : Progress) (k : Mark) (later : Progress) : Type 0 where
+  pub state : state_of later ≡ marked k (registers_held before)
+  pub registers : registers_held later ≡ registers_held before
 
 -- The line that ends at the first newline of an input.
 abbrev pub line_at : List ℕ → List ℕ

@@ -8,23 +8,25 @@ ghost use Rattle.printing.specs.Writing.{Put};
 ghost use Rattle.lines.specs.Statement.{start, has_stopped, at_end, next_number, counted, begun, month_reply, month_end, opening_read, bill_read, critical_read, run_read, run_or_bill_read, expected_read, opened, fault};
 ghost use Rattle.progress.specs.Values.{values_of};
 ghost use Rattle.progress.specs.Expected.{line_place};
-ghost use Rattle.progress.specs.Progressing.{state_of, Reads, RunsRead};
+ghost use Rattle.progress.specs.Progressing.{state_of, Reads, RunsRead, Marks, GoesBack};
 ghost use Rattle.progress.specs.Ending.{text_of, Steps, Tells, Changes, run_of, NoRun, FirstRun};
 
 mod expected;
+mod mark;
 mod opening;
 mod readings;
 
 use account::{Account, Reply};
 use billing::Bill;
 use expected::{Expected, OpeningLine};
+use mark::Mark;
 use opening::Opening;
 use readings::{Readings, Run};
 use refusals::Refusal;
 
 // What the lines so far have given. Month, critical days and opening stand beside `expected` and not in its variants: the definition's state has them always,
 // 0 where nothing is read yet, and a new bill line keeps the critical days of the month before.
-#[derive(Drop)]
+#[derive(Clone, Copy)]
 pub struct Progress {
     lines: u64,
     expected: Expected,
@@ -277,6 +279,34 @@ impl Progress {
             rest = behind;
         }
         input.len() - rest.len()
+    }
+
+    // Where it stands.
+    pub fn mark(&self) -> Mark
+        ensures { Marks self.now result }
+    {
+        Mark {
+            lines: self.lines,
+            expected: self.expected,
+            opening: self.opening,
+            account: self.account,
+            month: self.month,
+            critical: self.critical,
+            count: self.readings.count(),
+        }
+    }
+
+    // Goes back to where it stood. The registers stay, with what was stored since.
+    pub fn back_to(&mut self, mark: Mark)
+        ensures { GoesBack self.old mark self.new }
+    {
+        self.lines = mark.lines;
+        self.expected = mark.expected;
+        self.opening = mark.opening;
+        self.account = mark.account;
+        self.month = mark.month;
+        self.critical = mark.critical;
+        self.readings.keep(mark.count);
     }
 
     // What is printed at the end of the input after a whole line.

@@ -1,6 +1,6 @@
 // The readings of the month that is being read.
 
-ghost use Rattle.std.specs.Prelude.{◌≡◌, ◌≤◌, OnSome, IfNone};
+ghost use Rattle.std.specs.Prelude.{◌≡◌, ◌≤◌, length, OnSome, IfNone};
 ghost use Rattle.lines.specs.Statement.{run_limit};
 
 use calendar::MOST_READINGS;
@@ -16,7 +16,7 @@ pub struct Run {
 // The readings stand at the front of two registers. Past them stands what was left there. No `ArrayVec`s: the contracts of a session say what the registers
 // hold past the readings, and an `ArrayVec` says nothing of that. Two arrays under one count, and no array of pairs: billing takes each register as a slice
 // of its own, as document 01 lends them.
-#[derive(Drop)]
+#[derive(Clone, Copy)]
 pub struct Readings {
     delivered: [u32; MOST_READINGS],
     received: [u32; MOST_READINGS],
@@ -44,6 +44,25 @@ impl Readings {
         ensures registers { registers_in self.new ≡ registers_in self.old }
     {
         self.count = 0;
+    }
+
+    // How many they are.
+    pub(crate) fn count(&self) -> usize
+        ensures count { result ≡ self.now.count }
+        ensures fits { result ≤ run_limit }
+        ensures delivered { result ≤ length self.now.delivered }
+        ensures received { result ≤ length self.now.received }
+    {
+        self.count
+    }
+
+    // The first so many of what the registers hold are the readings.
+    pub(crate) fn keep(&mut self, count: usize)
+        requires { count ≤ run_limit }
+        ensures count { self.new.count ≡ count }
+        ensures registers { registers_in self.new ≡ registers_in self.old }
+    {
+        self.count = count;
     }
 
     pub(crate) fn delivered(&self) -> &[u32]

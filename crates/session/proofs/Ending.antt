@@ -11,12 +11,14 @@ use borrow.Rule.Slice.PartMut.{put_mid}
 use lib.Seq.{length-sets}
 use Rattle.printing.specs.Writing.{fits, has_room, Wrote, Put}
 use Rattle.lines.specs.Statement.{State, line_read, at_end}
-use Rattle.progress.specs.Progressing.{state_of, Reads}
+use Rattle.progress.specs.Progressing.{state_of, registers_held, Reads, Marks, GoesBack}
+use Rattle.progress.specs.declared.mark.Mark.{Mark}
 use Rattle.progress.specs.declared.Progress.{Progress}
 use Rattle.progress.proofs.Lines.{held_same}
-use Rattle.lines.specs.Feeding.{SoFar, ending, state_at_end}
+use Rattle.progress.proofs.Marks.{back_again}
+use Rattle.lines.specs.Feeding.{SoFar, ending, state_at_end, with_readings}
 use Rattle.session.specs.declared.Session.{Session}
-use Rattle.session.specs.Sessions.{so_far_of, registers_of, registers_at_end, Finishes}
+use Rattle.session.specs.Sessions.{kept_line, so_far_of, registers_of, registers_at_end, Finishes}
 use Rattle.lines.proofs.Lengths.{text_fits, end_fits}
 use Rattle.printing.proofs.Writing.{then, wrote_part}
 
@@ -24,15 +26,15 @@ use Rattle.printing.proofs.Writing.{then, wrote_part}
 pub finish_none : (x : Session) (out : List ℕ) → length out < 2048 → Finishes x out x 0 out
 finish_none x out h =
     let no = lt-leb 2048 (length out) h in
-    record { line = refl; registers = rw no; bytes = rw no; end = rw no; fits = omega arith }
+    record { stands = refl; registers = rw no; bytes = rw no; end = rw no; fits = omega arith }
 
 -- With room a text is written that fits.
-wrote_all : {x y : Session} {out out_later : List ℕ} {j : ℕ} → 2048 ≤ length out → length (ending (so_far_of x)) ≤ 2048 → y.held.items ≡ x.held.items
+wrote_all : {x y : Session} {out out_later : List ℕ} {j : ℕ} → 2048 ≤ length out → length (ending (so_far_of x)) ≤ 2048 → so_far_of y ≡ so_far_of x
     → registers_of y ≡ registers_at_end (so_far_of x) (registers_of x) → Wrote out 0 (ending (so_far_of x)) out_later j → Finishes x out y j out_later
 wrote_all {out = out} h k same e w =
     let yes = le-leb 2048 (length out) h in
     let end = w.end in
-    record { line = same; registers = rw yes e; bytes = rw yes w.bytes; end = rw yes (omega arith); fits = omega arith }
+    record { stands = same; registers = rw yes e; bytes = rw yes w.bytes; end = rw yes (omega arith); fits = omega arith }
 
 room_here : (out : List ℕ) (i : ℕ) → i + 1024 ≤ length out → has_room out i ≡ true
 unfolding fits
@@ -48,7 +50,7 @@ module _ (x : SoFar) (none : length x.line ≡ 0) where
   unfolding state_at_end
   whole_state = rw (eq-eqb _ _ none)
 
-pub finish_whole : (x : Session) (out out_later : List ℕ) (j : ℕ) → length x.held.items ≡ 0 → 2048 ≤ length out
+pub finish_whole : (x : Session) (out out_later : List ℕ) (j : ℕ) → length (kept_line x.held) ≡ 0 → 2048 ≤ length out
     → Put out 0 (at_end (state_of x.progress)) out_later j → Finishes x out x j out_later
 finish_whole x out out_later j none h p =
     let text = whole_end (so_far_of x) none in
@@ -87,16 +89,19 @@ put_short s out out_later n p = by (has_room out 0) refl
     by true e = let k = rw e at p.end in omega (arith, end_fits s, k)
     by false e = let k = rw e at p.end in omega (arith, k)
 
-pub finish_line : (x y : Session) (out out_read part : List ℕ) (i n : ℕ) → (length x.held.items ≡ 0 → ⊥) → 2048 ≤ length out
-    → Reads x.progress x.held.items out 0 y.progress out_read i → y.held.items ≡ x.held.items
-    → Put (take (length out_read - i) (drop i out_read)) 0 (at_end (state_of y.progress)) part n
-    → Finishes x out y (i + n) (put_mid i (length out_read - i) out_read part)
-finish_line x y out out_read part i n some h made same p =
-    let line = x.held.items in
+pub finish_line : (x z : Session) (y : Progress) (k : Mark) (out out_read part : List ℕ) (i n : ℕ) → (length (kept_line x.held) ≡ 0 → ⊥)
+    → 2048 ≤ length out → Marks x.progress k → Reads x.progress (kept_line x.held) out 0 y out_read i
+    → Put (take (length out_read - i) (drop i out_read)) 0 (at_end (state_of y)) part n
+    → kept_line z.held ≡ kept_line x.held → GoesBack y k z.progress
+    → Finishes x out z (i + n) (put_mid i (length out_read - i) out_read part)
+finish_line x z y k out out_read part i n some h mark made p same back =
+    let line = kept_line x.held in
     let s = state_of x.progress in
     let last = line_end (so_far_of x) some in
     let room = room_here out 0 (omega arith) in
-    let state : state_of y.progress ≡ (line_read line s).state = rw room at made.state in
+    let state : state_of y ≡ (line_read line s).state = rw room at made.state in
+    let registers : registers_held y ≡ with_readings (line_read line s).state (registers_of x) = rw (← state) made.registers in
+    let stands : state_of z.progress ≡ s = back_again x.progress y z.progress k line mark registers back in
     let first : Wrote out 0 (line_read line s).text out_read i = record { bytes = rw room at made.text.bytes; end = rw room at made.text.end } in
     let long : length out_read ≡ length out = ap length first.bytes ∙ simp length-sets in
     let short = text_fits line s in
@@ -105,5 +110,5 @@ finish_line x y out out_read part i n some h made same p =
     let front : Wrote (take (length out_read - i) (drop i out_read)) 0 (at_end (line_read line s).state) part n
     = rw (← state) (record { bytes = rw room_later at p.bytes; end = rw room_later at p.end }) in
     let second = wrote_part (omega (arith, first.end)) front in
-    wrote_all h (rw (last, length-append) (omega (arith, end_fits (line_read line s).state))) same
-    (rw (line_state (so_far_of x) some, ← state) made.registers) (rw last (then first second))
+    wrote_all h (rw (last, length-append) (omega (arith, end_fits (line_read line s).state))) (rw (same, stands))
+    (rw (line_state (so_far_of x) some) (back.registers ∙ registers)) (rw last (then first second))

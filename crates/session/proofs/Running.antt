@@ -16,7 +16,7 @@ use Rattle.progress.proofs.Lines.{held_same}
 use Rattle.progress.proofs.RunLines.{expected_newline, run_read_lem, run_quiet, bytes_none, state_none, bytes_more, state_more}
 use Rattle.lines.specs.Feeding.{kept_bytes, SoFar, after, printed, taken_of, Registers, with_readings, registers_after}
 use Rattle.session.specs.declared.Session.{Session}
-use Rattle.session.specs.Sessions.{so_far_of, registers_of}
+use Rattle.session.specs.Sessions.{kept_line, so_far_of, registers_of}
 use Rattle.session.specs.Taking.{held, TakesBytes, TakesSome}
 use Rattle.lines.proofs.Streams.{cut_text, cut_state, newline_state, newline_text}
 use Rattle.lines.proofs.Lengths.{line_cut}
@@ -131,12 +131,12 @@ module _ (x : Session) (later : Progress) (input out : List ℕ) (i taken : ℕ)
   as_quiet = rw (w.takes, w.state) (quiet (length input) input (state_of x.progress))
 
   -- Some were taken.
-  pub takes_runs : length x.held.items ≡ 0 → (taken ≡ 0 → ⊥)
-      → TakesSome (so_far_of x) (registers_of x) input out i taken (held x.held.items (state_of later)) (registers_held later) i out
+  pub takes_runs : length (kept_line x.held) ≡ 0 → (taken ≡ 0 → ⊥)
+      → TakesSome (so_far_of x) (registers_of x) input out i taken (held (kept_line x.held) (state_of later)) (registers_held later) i out
   takes_runs empty h =
       let k = as_quiet in
       let text = k.text in
-      rw (nil_from_length x.held.items empty)
+      rw (nil_from_length (kept_line x.held) empty)
       (record {
         some = λ _. omega (arith, h);
         inside = k.inside;
@@ -155,7 +155,7 @@ module _ (x : Session) (later : Progress) (input out : List ℕ) (i taken : ℕ)
       sym (ap (λ (y : SoFar). y.state) e)
 
   pub takes_none : {next : SoFar} {q : Registers} {out_later : List ℕ} {t j : ℕ} → taken ≡ 0
-      → TakesBytes (held x.held.items (state_of later)) (registers_held later) input out i t next q j out_later
+      → TakesBytes (held (kept_line x.held) (state_of later)) (registers_held later) input out i t next q j out_later
       → TakesSome (so_far_of x) (registers_of x) input out i t next q j out_later
   takes_none h made =
       let registers : registers_held later ≡ registers_of x

@@ -16,7 +16,7 @@ use Rattle.progress.specs.Progressing.{state_of, registers_held, Reads}
 use Rattle.progress.proofs.Lines.{held_same}
 use Rattle.lines.specs.Feeding.{SoFar, after_byte, byte_text, after, printed, Registers, with_readings, registers_after}
 use Rattle.session.specs.declared.Session.{Session}
-use Rattle.session.specs.Sessions.{so_far_of, registers_of}
+use Rattle.session.specs.Sessions.{kept_line, so_far_of, registers_of}
 use Rattle.session.specs.Taking.{kept_of, Keeps, held, TakesBytes, TakesLine}
 use Rattle.lines.proofs.Buffers.{cut_registers}
 use Rattle.lines.proofs.Streams.{cut_text, cut_state, newline_state, newline_text, other_state}
@@ -55,7 +55,7 @@ line_registers x l r h e =
 
 -- The bytes before the newline are held behind those that were.
 module _ (x y : Session) (input out front : List ℕ) (i : ℕ) (p : front ≡ take (place_of 10 input) input) (k : Keeps x front y) where
-  state : after (so_far_of x) front ≡ held (kept_of x.held.items front) (state_of x.progress)
+  state : after (so_far_of x) front ≡ held (kept_of (kept_line x.held) front) (state_of x.progress)
   state = rw p (front_state (so_far_of x) input k.room)
 
   none : printed (so_far_of x) front ≡ []
@@ -63,11 +63,11 @@ module _ (x y : Session) (input out front : List ℕ) (i : ℕ) (p : front ≡ t
 
   -- The newline: the line is read, and nothing is held any more.
   pub line_ended : (later : Progress) (line out_later : List ℕ) (j : ℕ) → place_of 10 input < length input
-      → has_room out i ≡ true → Reads y.progress y.held.items out i later out_later j → line ≡ []
+      → has_room out i ≡ true → Reads y.progress (kept_line y.held) out i later out_later j → line ≡ []
       → TakesBytes (so_far_of x) (registers_of x) input out i (length front + 1) (held line (state_of later)) (registers_held later) j out_later
   line_ended later line out_later j short room reads empty =
       let w = rw (k.line, k.progress) at reads in
-      let whole = held (kept_of x.held.items front) (state_of x.progress) in
+      let whole = held (kept_of (kept_line x.held) front) (state_of x.progress) in
       let long : length front ≡ place_of 10 input = ap length p ∙ length-take-le (place_of 10 input) input (omega (arith, short)) in
       let all : take (length front + 1) input ≡ front ++ 10 ∷ [] = rw (long, p) (newline_last input short) in
       let text : printed (so_far_of x) (take (length front + 1) input) ≡ (line_read whole.line whole.state).text

@@ -3,13 +3,18 @@ use Rattle.std.specs.Prelude.{◌≡◌, cond, List, ℕ, ◌≤◌, leb, length
 use Rattle.std.proofs.lemmas.List.Edits.{sets}
 use Rattle.printing.specs.Writing.{Wrote}
 use Rattle.progress.specs.Progressing.{state_of, registers_held}
+use Rattle.session.specs.declared.kept.Kept.{Kept}
 use Rattle.session.specs.declared.Session.{Session}
 use Rattle.lines.specs.Feeding.{SoFar, after, printed, ending, taken_of}
 use Rattle.lines.specs.Feeding.{Registers, with_readings, registers_after, state_at_end}
 
+-- The bytes that are kept of a line.
+abbrev pub kept_line : Kept → List ℕ
+kept_line x = take x.count x.bytes
+
 -- The bytes that are held, and the state of the lines before them.
 abbrev pub so_far_of : Session → SoFar
-so_far_of x = record { line = x.held.items; state = state_of x.progress }
+so_far_of x = record { line = kept_line x.held; state = state_of x.progress }
 
 -- The two registers that the month's readings stand at the front of.
 abbrev pub registers_of : Session → Registers
@@ -33,9 +38,10 @@ pub record Feeds (x : Session) (input : List ℕ) (out : List ℕ) (taken : ℕ)
   pub inside : taken ≤ length input
   pub fits : written ≤ length out
 
--- The end of the input: what the registers hold then, and what is written from the front of the buffer for texts. The bytes that are held stay.
+-- The end of the input: what the registers hold then, and what is written from the front of the buffer for texts. The bytes that are held stay, and so
+-- does what was read.
 pub record Finishes (x : Session) (out : List ℕ) (y : Session) (written : ℕ) (out_later : List ℕ) : Type 0 where
-  pub line : y.held.items ≡ x.held.items
+  pub stands : so_far_of y ≡ so_far_of x
   pub registers : registers_of y ≡ cond (leb least_room (length out)) (registers_at_end (so_far_of x) (registers_of x)) (registers_of x)
   pub bytes : out_later ≡ cond (leb least_room (length out)) (sets out 0 (ending (so_far_of x))) out
   pub end : written ≡ cond (leb least_room (length out)) (length (ending (so_far_of x))) 0

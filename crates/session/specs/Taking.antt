@@ -4,7 +4,7 @@ use Rattle.printing.specs.Writing.{text_room, Wrote}
 use Rattle.lines.specs.Statement.{State}
 use Rattle.lines.specs.Feeding.{kept_bytes, SoFar, after, printed, taken_of, Registers, registers_after}
 use Rattle.session.specs.declared.Session.{Session}
-use Rattle.session.specs.Sessions.{so_far_of, registers_of}
+use Rattle.session.specs.Sessions.{kept_line, so_far_of, registers_of}
 
 -- What is kept of a line after more bytes of it.
 abbrev pub kept_of : List ℕ → List ℕ → List ℕ
@@ -12,8 +12,8 @@ kept_of line bytes = take kept_bytes (line ++ bytes)
 
 -- More bytes are held where there is room; what was read is the same.
 pub record Keeps (x : Session) (bytes : List ℕ) (y : Session) : Type 0 where
-  pub room : length x.held.items ≤ kept_bytes
-  pub line : y.held.items ≡ kept_of x.held.items bytes
+  pub room : length (kept_line x.held) ≤ kept_bytes
+  pub line : kept_line y.held ≡ kept_of (kept_line x.held) bytes
   pub progress : y.progress ≡ x.progress
 
 -- How many bytes there are up to the first newline, with it; all where there is none.

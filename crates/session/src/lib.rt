@@ -8,20 +8,22 @@ ghost use Rattle.lines.specs.Feeding.{nothing_read};
 ghost use Rattle.session.specs.Sessions.{so_far_of, registers_of, Feeds, Finishes};
 ghost use Rattle.session.specs.Taking.{Keeps, TakesLine, Takes};
 
-use arrayvec::ArrayVec;
+mod kept;
+
+use kept::Kept;
 use progress::Progress;
 
 // The most bytes that are kept of a line that isn't complete yet: one more than the longest readable line has.
-const KEPT_BYTES: usize = 98;
+pub const KEPT_BYTES: usize = 98;
 
 // Room for the last two texts.
 const LEAST_ROOM: usize = 2048;
 
 // The bytes that are held of the line that isn't complete yet, and the progress of the lines so far. Lend at least 2,048 bytes for texts: with fewer
 // `feed` takes nothing.
-#[derive(Drop)]
+#[derive(Clone, Copy)]
 pub struct Session {
-    held: ArrayVec<u8, KEPT_BYTES>,
+    held: Kept,
     progress: Progress,
 }
 
@@ -38,7 +40,7 @@ impl Session {
         ensures { so_far_of result ≡ nothing_read }
     {
         Session {
-            held: ArrayVec::new(),
+            held: Kept::none(),
             progress: Progress::start(),
         }
     }
@@ -54,8 +56,7 @@ impl Session {
     fn keep(&mut self, bytes: &[u8])
         ensures { Keeps self.old bytes.now self.new }
     {
-        let more = self.held.remaining_capacity().min(bytes.len());
-        let _fits = self.held.try_extend_from_slice(&bytes[..more]);
+        self.held.add(bytes);
     }
 
     // Takes the bytes up to the first newline, and reads the line that it ends; or takes all bytes, where there is none.
@@ -84,7 +85,7 @@ impl Session {
         requires { has_room out.old 0 ≡ true }
         ensures { Takes self.old input.now out.old 0 result.taken self.new result.written out.new }
     {
-        if self.held.is_empty() {
+        if self.held.as_slice().is_empty() {
             let taken = self.progress.read_runs(input);
             if taken != 0 {
                 return Fed { taken, written: 0 };
@@ -116,7 +117,8 @@ impl Session {
         }
     }
 
-    // The end of the input: writes the texts that are left, where there is room for them, and says how many bytes they have.
+    // The end of the input: writes the texts that are left, where there is room for them, and says how many bytes they have. What was read stays as it was, so
+    // that more can be fed.
     pub fn finish(&mut self, out: &mut [u8]) -> usize
         ensures { Finishes self.old out.old self.new result out.new }
     {
@@ -127,7 +129,10 @@ impl Session {
         if held.is_empty() {
             return self.progress.finish(out);
         }
-        let written = self.progress.read_line(held, out);
-        written + self.progress.finish(&mut out[written..])
+        let mark = self.progress.mark();
+        let line = self.progress.read_line(held, out);
+        let written = line + self.progress.finish(&mut out[line..]);
+        self.progress.back_to(mark);
+        written
     }
 }

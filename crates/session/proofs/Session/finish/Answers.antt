@@ -5,21 +5,22 @@ use Rattle.session.proofs.Session.finish.Goals as goal
 
 pub returns-then-is_empty : goal.returns-then-is_empty
 returns-then-is_empty c = finish_whole c.args.self.now c.args.out.now c.finish.new.out c.finish.result
-    (empty _ (rw c.as_slice-held.ensures.value at c.is_empty.ensures) c.if-is_empty.true) c.if-out-lt-LEAST_ROOM.false c.finish.ensures
+    (empty _ (rw c.as_slice-held.ensures at c.is_empty.ensures) c.if-is_empty.true) c.if-out-lt-LEAST_ROOM.false c.finish.ensures
 
 pub slice_bounds-finish-count : goal.slice_bounds-finish-count
-slice_bounds-finish-count c = let short = read_short _ _ _ _ _ _ c.if-out-lt-LEAST_ROOM.false c.read_line-written.ensures in
+slice_bounds-finish-count c = let short = read_short _ _ _ _ _ _ c.if-out-lt-LEAST_ROOM.false c.read_line-line.ensures in
     omega (arith, c.if-out-lt-LEAST_ROOM.false)
 
 pub slice_bounds-finish-start : goal.slice_bounds-finish-start
-slice_bounds-finish-start c = let short = read_short _ _ _ _ _ _ c.if-out-lt-LEAST_ROOM.false c.read_line-written.ensures in
+slice_bounds-finish-start c = let short = read_short _ _ _ _ _ _ c.if-out-lt-LEAST_ROOM.false c.read_line-line.ensures in
     omega (arith, c.if-out-lt-LEAST_ROOM.false)
 
-pub overflow_add-result : goal.overflow_add-result
-overflow_add-result c = let short = read_short _ _ _ _ _ _ c.if-out-lt-LEAST_ROOM.false c.read_line-written.ensures in
+pub overflow_add-written : goal.overflow_add-written
+overflow_add-written c = let short = read_short _ _ _ _ _ _ c.if-out-lt-LEAST_ROOM.false c.read_line-line.ensures in
     omega (arith, put_short _ _ _ _ c.finish-2.ensures)
 
 pub returns : goal.returns
-returns c = finish_line c.args.self.now _ c.args.out.now c.read_line-written.new.out c.finish-2.new.out c.read_line-written.result c.finish-2.result
-    (not_empty _ (rw c.as_slice-held.ensures.value at c.is_empty.ensures) c.if-is_empty.false) c.if-out-lt-LEAST_ROOM.false
-    (rw c.as_slice-held.ensures.value at c.read_line-written.ensures) refl c.finish-2.ensures
+returns c = finish_line c.args.self.now _ c.read_line-line.new.self c.mark-mark.result c.args.out.now c.read_line-line.new.out c.finish-2.new.out
+    c.read_line-line.result c.finish-2.result (not_empty _ (rw c.as_slice-held.ensures at c.is_empty.ensures) c.if-is_empty.false)
+    c.if-out-lt-LEAST_ROOM.false c.mark-mark.ensures
+    (rw c.as_slice-held.ensures at c.read_line-line.ensures) c.finish-2.ensures refl c.back_to.ensures

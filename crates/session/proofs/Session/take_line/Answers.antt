@@ -8,4 +8,4 @@ returns-in_default c = all_held c.args.self.now c.keep.new.self c.args.input.now
 pub returns : goal.returns
 returns c = line_ended c.args.self.now c.keep-2.new.self c.args.input.now c.args.out.now c.in-Some.line.now 0 c.in-Some.ensures.before c.keep-2.ensures
     c.read_line-written.new.self _ c.read_line-written.new.out c.read_line-written.result c.in-Some.ensures.within c.requires
-    (rw c.as_slice.ensures.value at c.read_line-written.ensures) c.clear.ensures
+    (rw c.as_slice.ensures at c.read_line-written.ensures) c.clear.ensures
